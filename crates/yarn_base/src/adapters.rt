@@ -1,0 +1,140 @@
+ghost use Rattle.std.specs.Prelude.{◌≡◌, None};
+
+use crate::{Failed, Files, IoFault, List, Sink, Source, Text};
+use std::alloc::Global;
+use std::io::{self, Read, Write};
+use std::{fs, rt};
+
+/// The files of the system. It tells no contents.
+#[derive(Drop)]
+pub struct RealFiles<R: rt::Files + Drop> {
+    rt: R,
+    read_faults: u64,
+    latest_fault: Option<Text>,
+    write_faults: u64,
+}
+
+impl<R: rt::Files + Drop> RealFiles<R> {
+    ghost use Rattle.yarn_base.specs.Adapters.{HasNoFault};
+
+    pub fn new(rt: R) -> RealFiles<R>
+        ensures { HasNoFault result }
+    {
+        RealFiles {
+            rt,
+            read_faults: 0,
+            latest_fault: None,
+            write_faults: 0,
+        }
+    }
+}
+
+impl<R: rt::Files + Drop> Files for RealFiles<R> {
+    ghost contents = { λ _. None };
+
+    ghost read_faults = { λ f. f.read_faults };
+
+    ghost latest_fault = { λ f. f.latest_fault };
+
+    ghost write_faults = { λ f. f.write_faults };
+
+    fn read(&mut self, alloc: Global, name: &Text, max: usize) -> Result<Vec<u8>, IoFault> {
+        let Ok(copy) = name.copy() else {
+            return Err(IoFault::Memory);
+        };
+        match read_first(&self.rt, alloc, name.as_str(), max) {
+            Ok(mut bytes) => {
+                bytes.truncate(max + 1);
+                Ok(bytes)
+            }
+            Err(_) => {
+                self.read_faults = self.read_faults.saturating_add(1);
+                self.latest_fault = Some(copy);
+                Err(IoFault::Failed)
+            }
+        }
+    }
+
+    fn write(&mut self, name: &Text, bytes: &List<u8>) -> Result<(), IoFault> {
+        match fs::write(&self.rt, name.as_str(), bytes.as_slice()) {
+            Ok(()) => Ok(()),
+            Err(_) => {
+                self.write_faults = self.write_faults.saturating_add(1);
+                Err(IoFault::Failed)
+            }
+        }
+    }
+}
+
+fn read_first<R: rt::Files>(rt: &R, alloc: Global, name: &str, max: usize) -> io::Result<Vec<u8>> {
+    let mut bytes = Vec::new(alloc);
+    let most = (max as u64).saturating_add(1);
+    fs::open(rt, name)?.take(most).read_to_end(&mut bytes)?;
+    Ok(bytes)
+}
+
+/// A reader of the system. It tells no bytes.
+#[derive(Drop)]
+pub struct ReaderSource<R: Read + Drop> {
+    reader: R,
+    faults: u64,
+}
+
+impl<R: Read + Drop> ReaderSource<R> {
+    ghost use Rattle.yarn_base.specs.Adapters.{reader_faults};
+
+    pub fn new(reader: R) -> ReaderSource<R>
+        ensures { reader_faults result ≡ 0 }
+    {
+        ReaderSource { reader, faults: 0 }
+    }
+}
+
+impl<R: Read + Drop> Source for ReaderSource<R> {
+    ghost left = { λ _. None };
+
+    ghost faults = { λ s. s.faults };
+
+    fn read(&mut self, into: &mut [u8]) -> Result<usize, Failed> {
+        match self.reader.read(into) {
+            Ok(count) => Ok(count),
+            Err(_) => {
+                self.faults = self.faults.saturating_add(1);
+                Err(Failed)
+            }
+        }
+    }
+}
+
+/// A writer of the system. It tells no bytes.
+#[derive(Drop)]
+pub struct WriterSink<W: Write + Drop> {
+    writer: W,
+    faults: u64,
+}
+
+impl<W: Write + Drop> WriterSink<W> {
+    ghost use Rattle.yarn_base.specs.Adapters.{writer_faults};
+
+    pub fn new(writer: W) -> WriterSink<W>
+        ensures { writer_faults result ≡ 0 }
+    {
+        WriterSink { writer, faults: 0 }
+    }
+}
+
+impl<W: Write + Drop> Sink for WriterSink<W> {
+    ghost written = { λ _. None };
+
+    ghost faults = { λ s. s.faults };
+
+    fn write(&mut self, from: &[u8]) -> Result<usize, IoFault> {
+        match self.writer.write(from) {
+            Ok(count) if count > 0 || from.is_empty() => Ok(count),
+            _ => {
+                self.faults = self.faults.saturating_add(1);
+                Err(IoFault::Failed)
+            }
+        }
+    }
+}
