@@ -1,0 +1,25 @@
+-- What cutting a file into lines answers.
+use Rattle.std.specs.Str.{is_utf8}
+use Rattle.std.specs.Prelude.{◌≡◌, ℕ, List, Bool, if◌then◌else◌, true, false, Option, Some, None, Result, Ok, Err, ⊤}
+use Rattle.yarn_lines.specs.Lines.{lines_of, pieces_in, first_from, is_long}
+use Rattle.yarn_lines.specs.declared.line.Lines.{Lines}
+use Rattle.yarn_lines.specs.declared.line.LineFault.{LineFault}
+use Rattle.yarn_lines.specs.declared.line.LineFault.TheVariants.{BadUtf8, LineTooLong, Memory}
+
+abbrev pub is_bad : List ℕ → Bool
+is_bad piece = if is_utf8 piece then false else true
+
+-- the first line that is no UTF-8
+abbrev pub first_bad : List ℕ → Option ℕ
+first_bad bytes = first_from is_bad 1 (pieces_in bytes)
+
+-- the first line of more than 65,536 bytes
+abbrev pub first_long : List ℕ → Option ℕ
+first_long bytes = first_from is_long 1 (pieces_in bytes)
+
+-- the lines where no line is bad and none is long; else the first bad one, else the first long one
+abbrev pub Splits : List ℕ → Result Lines LineFault → Type 0
+Splits bytes (Ok lines) = (first_bad bytes ≡ None) × (first_long bytes ≡ None) × (lines ≡ lines_of bytes)
+Splits bytes (Err (BadUtf8 number)) = first_bad bytes ≡ Some number
+Splits bytes (Err (LineTooLong number)) = (first_bad bytes ≡ None) × (first_long bytes ≡ Some number)
+Splits bytes (Err Memory) = ⊤

@@ -1,0 +1,120 @@
+-- What the nodes of a project mean: which events a conversation gives (docs/language.md, The meaning).
+use Rattle.std.specs.Prelude.{ℕ, zero, suc, List, [], ◌∷◌, ◌++◌, nat_eq, if◌then◌else◌, Option, Some, None}
+use Rattle.std.specs.Cmp.Lexicographic.{pointwise}
+use Rattle.yarn_tree.specs.declared.tree.Node.{Node}
+use Rattle.yarn_tree.specs.declared.tree.Stmt.{Stmt}
+use Rattle.yarn_tree.specs.declared.tree.Stmt.TheVariants.{Line, Jump}
+
+pub data Event : Type 0 where
+  -- a node of that title is entered
+  NodeStart : List ℕ → Event
+  -- a line is said: its id and its text
+  LineSaid : List ℕ → List ℕ → Event
+  -- the node of that title is left
+  NodeEnd : List ℕ → Event
+  End : Event
+
+-- why a run faults: a jump to a title that no node has
+pub record Fault : Type 0 where
+  -- the title of the node that is left, and the line of the jump
+  pub node : List ℕ
+  pub line : ℕ
+  pub name : List ℕ
+
+-- where a run stands
+pub data Stand : Type 0 where
+  Ended : Stand
+  Limit : Stand
+  Faults : Fault → Stand
+
+-- what shows, and the stand there
+pub record Outcome : Type 0 where
+  pub events : List Event
+  pub stand : Stand
+
+-- what shows within the next k + 1 events
+abbrev pub Behaviour : Type 0
+Behaviour = ℕ → Outcome
+
+abbrev pub stands : Stand → Behaviour
+stands s k = record { events = []; stand = s }
+
+abbrev pub with_event : Event → Outcome → Outcome
+with_event e o = record { events = e ∷ o.events; stand = o.stand }
+
+-- an event, and what follows it
+abbrev pub emit : Event → Behaviour → Behaviour
+emit e b zero = record { events = e ∷ []; stand = Limit }
+emit e b (suc k) = with_event e (b k)
+
+-- End, which nothing follows
+abbrev pub finishes : Behaviour
+finishes k = record { events = End ∷ []; stand = Ended }
+
+-- how statements are left: at the end of their list, or by a jump on that line to that title
+pub data Exit : Type 0 where
+  Through : Exit
+  Jumps : ℕ → List ℕ → Exit
+
+-- the events of statements, and how they are left
+pub record Done : Type 0 where
+  pub events : List Event
+  pub exit : Exit
+
+abbrev pub prefixed : List Event → Done → Done
+prefixed es d = record { events = es ++ d.events; exit = d.exit }
+
+-- goes on where the statements were left through
+abbrev pub goes_on : Exit → List Event → Done → Done
+goes_on Through es next = prefixed es next
+goes_on (Jumps line name) es next = record { events = es; exit = Jumps line name }
+
+abbrev pub and_on : Done → Done → Done
+and_on d next = goes_on d.exit d.events next
+
+abbrev pub does : Stmt → Done
+does (Line text) = record { events = LineSaid text.id text.text ∷ []; exit = Through }
+does (Jump head name) = record { events = []; exit = Jumps head.line name }
+
+abbrev pub does_all : List Stmt → Done
+does_all [] = record { events = []; exit = Through }
+does_all (s ∷ ss) = and_on (does s) (does_all ss)
+
+abbrev pub emit_all : List Event → Behaviour → Behaviour
+emit_all [] b = b
+emit_all (e ∷ es) b = emit e (emit_all es b)
+
+-- what follows the end of statements
+abbrev pub left : Exit → Behaviour → (ℕ → List ℕ → Behaviour) → Behaviour
+left Through through jump = through
+left (Jumps line name) through jump = jump line name
+
+abbrev pub after : Done → Behaviour → (ℕ → List ℕ → Behaviour) → Behaviour
+after d through jump = emit_all d.events (left d.exit through jump)
+
+-- the first node of that title
+abbrev pub find : List ℕ → List Node → Option Node
+find title [] = None
+find title (n ∷ ns) = if pointwise nat_eq n.title title then Some n else find title ns
+
+abbrev pub at_node : Option Node → Behaviour → (Node → Behaviour) → Behaviour
+at_node None none some = none
+at_node (Some n) none some = some n
+
+-- a node is entered, its body is done and it is left; then a jump enters the next node
+abbrev pub in_node : (List ℕ → Behaviour → Behaviour) → Node → Behaviour
+in_node enter n =
+    emit (NodeStart n.title)
+    (after (does_all n.body) (emit (NodeEnd n.title) finishes)
+      (λ line name. emit (NodeEnd n.title) (enter name (stands (Faults (record { node = n.title; line = line; name = name }))))))
+
+-- from the node of that title on, through at most so many nodes; else what stands where no node has it
+abbrev pub from : List Node → ℕ → List ℕ → Behaviour → Behaviour
+from nodes zero title none = stands Limit
+from nodes (suc fuel) title none = at_node (find title nodes) none (in_node (from nodes fuel))
+
+-- the first k events from a node on, for k at least 1, and the stand there; each node gives an event, so
+-- k nodes suffice. No run is made where no node has the title.
+abbrev pub first_of : List Node → List ℕ → ℕ → Outcome
+first_of nodes start zero = stands Limit zero
+first_of nodes start (suc k) = from nodes (suc k) start (stands Ended) k

@@ -1,0 +1,6 @@
+//! Plays the nodes of a project.
+#![tactic(auto)]
+
+mod play;
+
+pub use play::PlayEnd;
