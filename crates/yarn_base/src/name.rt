@@ -20,8 +20,9 @@ pub fn is_variable(text: &Text) -> bool
     is_variable_str(text.as_str())
 }
 
+/// The same for a piece of a text.
 #[tactic(auto, using(std::proofs::lemmas::Str::chars_past_char))]
-fn is_name_str(text: &str) -> bool
+pub fn is_name_str(text: &str) -> bool
     ensures { result ≡ is_name_of (chars text.now) }
 {
     let mut all = text.chars();

@@ -90,7 +90,5 @@ past_leading-drop (b ∷ bytes) = by_test (past_leading-drop bytes) (is_blank b)
     by_test later true is = rw (is, later) refl
     by_test later false is = rw is refl
 
-pub text_of-slice : (piece line : List ℕ) (n : ℕ) → line ≡ content piece → n ≡ length (leading line) →
-    take (length line - n) (drop n line) ≡ text_of piece
-text_of-slice piece line n is at =
-    take_rest line n ∙ ap (λ k. drop k line) at ∙ sym (past_leading-drop line) ∙ ap past_leading is
+pub past_leading-slice : (bytes : List ℕ) (n : ℕ) → n ≡ length (leading bytes) → take (length bytes - n) (drop n bytes) ≡ past_leading bytes
+past_leading-slice bytes n at = take_rest bytes n ∙ ap (λ k. drop k bytes) at ∙ sym (past_leading-drop bytes)

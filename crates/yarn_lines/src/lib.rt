@@ -1,8 +1,10 @@
 //! The lines of a file.
 #![tactic(auto)]
 
+mod blanks;
 mod line;
 mod piece;
 
+pub use blanks::{without_blanks, without_blanks_before, without_blanks_behind};
 pub use line::{LineFault, Lines, RawLine};
 pub use piece::{first_piece, text_in};

@@ -1,6 +1,6 @@
 //! The pieces of a file that LFs end, and the parts of one: its blanks and its text.
 ghost use Rattle.std.specs.Prelude.{◌≡◌, ◌≤◌, ◌<◌, ◌∷◌, length, take, drop};
-ghost use Rattle.yarn_lines.specs.Lines.{pieces_of, is_blank, without_cr, without_trailing, leading, content, text_of};
+ghost use Rattle.yarn_lines.specs.Lines.{pieces_of, is_blank, without_cr, without_trailing, leading, past_leading, content, text_of};
 ghost use Rattle.yarn_lines.specs.Piece.{length_to_lf};
 
 /// The first line of the bytes without its LF, and what stands behind the LF.
@@ -34,8 +34,13 @@ fn first_lf(bytes: &[u8]) -> usize
 pub fn text_in(piece: &[u8]) -> &[u8]
     ensures { result.now ≡ text_of piece.now }
 {
-    let line = content_in(piece);
-    &line[leading_length(line)..]
+    past_leading_in(content_in(piece))
+}
+
+pub(crate) fn past_leading_in(bytes: &[u8]) -> &[u8]
+    ensures { result.now ≡ past_leading bytes.now }
+{
+    &bytes[leading_length(bytes)..]
 }
 
 /// A line without its end: without a CR there, and then without the blanks there.
@@ -56,7 +61,7 @@ fn without_cr_in(piece: &[u8]) -> &[u8]
     }
 }
 
-fn without_trailing_in(bytes: &[u8]) -> &[u8]
+pub(crate) fn without_trailing_in(bytes: &[u8]) -> &[u8]
     ensures { result.now ≡ without_trailing bytes.now }
 {
     let mut end = bytes.len();

@@ -13,7 +13,7 @@ pub returns-else-len-gt0 : goal.returns-else-len-gt0
 returns-else-len-gt0 c =
     let piece = c.args.piece.now in
     elim c.else-len-gt0.branch [
-      else-len-gt0-via-then-len-gt0+else-piece-len-eq13 w ↦
-        sym (without_cr-other piece (length piece - 1) (omega arith) w.if-piece-len-eq13.false)
-    | else-len-gt0-via-else-len-gt0 w ↦ let e = nil_from_length piece (omega arith) in rw e refl
+      | else-len-gt0-via-then-len-gt0+else-piece-len-eq13 w ↦
+          sym (without_cr-other piece (length piece - 1) (omega arith) w.if-piece-len-eq13.false)
+      | else-len-gt0-via-else-len-gt0 w ↦ let e = nil_from_length piece (omega arith) in rw e refl
     ]

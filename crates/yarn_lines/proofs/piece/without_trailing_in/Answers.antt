@@ -12,7 +12,7 @@ pub returns : goal.returns
 returns c =
     let end = c.loop-end.end in
     elim c.loop-end-test.branch [
-      then-loop-end-test+else-is_blank_byte w ↦
-        without_trailing-other c.args.bytes.now end (end - 1) (omega arith) (omega arith) (cc) ∙ c.loop-end.invariant.1
-    | else-loop-end-test w ↦ let z : end ≡ 0 = omega arith in rw z (rw z at c.loop-end.invariant.1)
+      | then-loop-end-test+else-is_blank_byte w ↦
+          without_trailing-other c.args.bytes.now end (end - 1) (omega arith) (omega arith) (cc) ∙ c.loop-end.invariant.1
+      | else-loop-end-test w ↦ let z : end ≡ 0 = omega arith in rw z (rw z at c.loop-end.invariant.1)
     ]

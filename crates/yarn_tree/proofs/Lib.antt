@@ -1,0 +1,3 @@
+pub mod ItemLemmas
+pub mod NamesLemmas
+pub mod NotBuiltLemmas
