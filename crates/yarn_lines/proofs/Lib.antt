@@ -1,1 +1,4 @@
+pub mod FileLemmas
+pub mod LineLemmas
 pub mod PieceLemmas
+pub mod Utf8Lemmas

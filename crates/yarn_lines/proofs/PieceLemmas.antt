@@ -81,7 +81,7 @@ without_trailing-other bytes end n e le is =
     let lt : n < length bytes = omega arith in
     sym (rw (e, take_more bytes n 0 lt) (trailing_other (take n bytes) (get_or bytes n 0) is))
 
-past_leading-drop : (bytes : List ℕ) → past_leading bytes ≡ drop (length (leading bytes)) bytes
+pub past_leading-drop : (bytes : List ℕ) → past_leading bytes ≡ drop (length (leading bytes)) bytes
 past_leading-drop [] = refl
 past_leading-drop (b ∷ bytes) = by_test (past_leading-drop bytes) (is_blank b) refl
   where

@@ -1,4 +1,11 @@
-use yarn_base::{List, Text};
+//! One line, and why a file has no lines.
+ghost use Rattle.std.specs.Prelude.{◌≡◌, ◌+◌, ◌*◌, ◌^◌, ◌≤◌, ◌<◌, ◌++◌, [], length, OnOk};
+ghost use Rattle.yarn_lines.specs.Lines.{width, counts};
+ghost use Rattle.yarn_lines.specs.Piece.{line_of};
+
+use crate::piece::{content_in, leading_length};
+use std::alloc::Global;
+use yarn_base::{List, Memory, Text};
 
 /// A line that counts: its text is neither empty nor a comment (docs/language.md, Lines).
 #[derive(Debug, Drop)]
@@ -30,4 +37,62 @@ pub enum LineFault {
     LineTooLong(u32),
     /// Want of memory.
     Memory,
+}
+
+impl From<Memory> for LineFault {
+    ghost use Rattle.std.specs.Prelude.{◌≡◌};
+    ghost use Rattle.yarn_lines.specs.declared.line.LineFault.TheVariants.{Memory};
+
+    ghost from_gives = { λ _ e. e ≡ Memory };
+
+    fn from(_: Memory) -> LineFault {
+        LineFault::Memory
+    }
+}
+
+/// Puts the line of a piece behind the lines, where it counts.
+pub(crate) fn push_line(
+    alloc: Global,
+    lines: &mut List<RawLine>,
+    piece: &str,
+    number: u32,
+    at: usize,
+) -> Result<(), Memory>
+    requires short { length piece.now ≤ 65536 }
+    requires place { at ≤ 2 ^ 32 }
+    ensures { OnOk result (lines.new ≡ lines.old ++ line_of number at piece.now) }
+{
+    let content = content_in(piece.as_bytes());
+    let front = leading_length(content);
+    let text = &piece[front..content.len()];
+    if !counts_in(text) {
+        return Ok(());
+    }
+    let line = RawLine {
+        number,
+        indent: width_in(&content[..front]),
+        at: at + front,
+        text: Text::from_str(alloc, text)?,
+    };
+    lines.push(line).map_err(|_| Memory)?;
+    Ok(())
+}
+
+// Whether a line with this text counts.
+fn counts_in(text: &str) -> bool
+    ensures { result ≡ counts text.now }
+{
+    let text = text.as_bytes();
+    !text.is_empty() && !text.starts_with(b"//")
+}
+
+fn width_in(blanks: &[u8]) -> u32
+    requires { length blanks.now ≤ 65536 }
+    ensures { result ≡ width blanks.now }
+{
+    let mut sum = 0;
+    for blank in blanks {
+        sum += if *blank == b'\t' { 8 } else { 1 };
+    }
+    sum
 }

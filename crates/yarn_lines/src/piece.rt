@@ -1,5 +1,5 @@
 //! The pieces of a file that LFs end, and the parts of one: its blanks and its text.
-ghost use Rattle.std.specs.Prelude.{◌≡◌, ◌≤◌, ◌<◌, ◌∷◌, length, take, drop};
+ghost use Rattle.std.specs.Prelude.{◌≡◌, ◌≤◌, ◌<◌, ◌∷◌, ◌+◌, length, take, drop, IsUtf8};
 ghost use Rattle.yarn_lines.specs.Lines.{pieces_of, is_blank, without_cr, without_trailing, leading, past_leading, content, text_of};
 ghost use Rattle.yarn_lines.specs.Piece.{length_to_lf};
 
@@ -14,6 +14,22 @@ pub fn first_piece(bytes: &[u8]) -> (&[u8], &[u8])
         (&bytes[..end], &bytes[end + 1..])
     } else {
         (bytes, &[])
+    }
+}
+
+/// The first line of a text without its LF, and what stands behind the LF.
+pub(crate) fn first_line(text: &str) -> (&str, &str)
+    requires { 0 < length text.now }
+    ensures pieces { pieces_of text.now ≡ result.0.now ∷ pieces_of result.1.now }
+    ensures shorter { length result.1.now < length text.now }
+    ensures within { length result.0.now + length result.1.now ≤ length text.now }
+    ensures utf8 { IsUtf8 result.0.now × IsUtf8 result.1.now }
+{
+    let end = first_lf(text.as_bytes());
+    if end < text.len() {
+        (&text[..end], &text[end + 1..])
+    } else {
+        (text, "")
     }
 }
 

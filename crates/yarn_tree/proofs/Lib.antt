@@ -1,3 +1,4 @@
 pub mod ItemLemmas
+pub mod JumpsLemmas
 pub mod NamesLemmas
 pub mod NotBuiltLemmas

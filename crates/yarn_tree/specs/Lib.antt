@@ -1,6 +1,10 @@
 pub mod Form
 pub mod Item
+pub mod Jumps
 pub mod Names
+pub mod Nodes
 pub mod NotBuilt
+pub mod Reading
 pub mod Scan
+pub mod Structure
 pub mod View
