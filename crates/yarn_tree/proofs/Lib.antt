@@ -2,3 +2,4 @@ pub mod ItemLemmas
 pub mod JumpsLemmas
 pub mod NamesLemmas
 pub mod NotBuiltLemmas
+pub mod ReaderLemmas

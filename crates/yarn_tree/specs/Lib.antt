@@ -4,6 +4,7 @@ pub mod Jumps
 pub mod Names
 pub mod Nodes
 pub mod NotBuilt
+pub mod Reader
 pub mod Reading
 pub mod Scan
 pub mod Structure

@@ -7,6 +7,7 @@ mod jumps;
 mod names;
 mod not_built;
 mod read;
+mod reader;
 mod refusal;
 mod structure;
 mod tree;

@@ -71,7 +71,11 @@ fn is_odd_bytes(piece: &[u8]) -> bool
 fn has_odd_byte(piece: &[u8]) -> bool
     ensures { result ≡ list_any is_odd_byte piece.now }
 {
-    piece.iter().any(|byte| *byte < 32 || 126 < *byte)
+    let mut found = false;
+    for byte in piece {
+        found |= (*byte < 32) | (126 < *byte);
+    }
+    found
 }
 
 /// A line counts where its text is neither empty nor a comment.
