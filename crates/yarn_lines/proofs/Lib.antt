@@ -2,3 +2,4 @@ pub mod FileLemmas
 pub mod LineLemmas
 pub mod PieceLemmas
 pub mod Utf8Lemmas
+pub mod LfLemmas

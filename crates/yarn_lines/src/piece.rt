@@ -3,6 +3,8 @@ ghost use Rattle.std.specs.Prelude.{◌≡◌, ◌≤◌, ◌<◌, ◌∷◌, �
 ghost use Rattle.yarn_lines.specs.Lines.{pieces_of, is_blank, without_cr, without_trailing, leading, past_leading, content, text_of};
 ghost use Rattle.yarn_lines.specs.Piece.{length_to_lf};
 
+use memchr::memchr;
+
 /// The first line of the bytes without its LF, and what stands behind the LF.
 pub fn first_piece(bytes: &[u8]) -> (&[u8], &[u8])
     requires { 0 < length bytes.now }
@@ -34,16 +36,15 @@ pub(crate) fn first_line(text: &str) -> (&str, &str)
 }
 
 // The place of the first LF, and of the end where there is none.
+#[tactic(auto, using(crate::proofs::LfLemmas::lfs))]
 fn first_lf(bytes: &[u8]) -> usize
     ensures value { result ≡ length_to_lf bytes.now }
     ensures within { result ≤ length bytes.now }
 {
-    for (at, byte) in bytes.iter().enumerate() {
-        if *byte == b'\n' {
-            return at;
-        }
+    match memchr(b'\n', bytes) {
+        Some(at) => at,
+        None => bytes.len(),
     }
-    bytes.len()
 }
 
 /// The text of a line: without a CR at its end and without the blanks around it.
