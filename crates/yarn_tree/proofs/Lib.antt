@@ -3,3 +3,4 @@ pub mod JumpsLemmas
 pub mod NamesLemmas
 pub mod NotBuiltLemmas
 pub mod ReaderLemmas
+pub mod TableLemmas

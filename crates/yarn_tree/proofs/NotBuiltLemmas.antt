@@ -34,6 +34,7 @@ of_body text = by_end (bytes_eq text (codes "===")) refl
     by_special : bytes_eq text (codes "===") ≡ false → (t : Bool) → list_any is_special text ≡ t → IsOfBody (body_item text)
     by_special e true is = rw (e, is) (of_given (given (behind (codes "<<jump") text) (before (codes ">>"))))
     by_special e false is = rw (e, is) tt
+
     by_end : (t : Bool) → bytes_eq text (codes "===") ≡ t → IsOfBody (body_item text)
     by_end true is = rw is tt
     by_end false is = by_special is (list_any is_special text) refl

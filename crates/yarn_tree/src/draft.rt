@@ -6,8 +6,7 @@ ghost use Rattle.yarn_tree.specs.View.{item_found};
 use crate::item::{Found, Mode};
 use crate::{Head, LineText, Node, Stmt};
 use std::alloc::Global;
-use std::mem;
-use std::str;
+use std::{mem, str};
 use yarn_base::{List as Items, Memory, Text};
 use yarn_lines::RawLine;
 
@@ -35,7 +34,12 @@ impl Draft {
     }
 
     /// Takes the item of a line, and gives the node that ends there.
-    pub(crate) fn take(&mut self, alloc: Global, line: &RawLine, found: Found) -> Result<Option<Node>, Memory>
+    pub(crate) fn take(
+        &mut self,
+        alloc: Global,
+        line: &RawLine,
+        found: Found,
+    ) -> Result<Option<Node>, Memory>
         ensures ended { IfOk result (λ node. node ≡ node_ended self.old line.now.number (Some (item_found line.now.text found.entry))) }
         ensures after { OnOk result (self.new ≡ draft_after self.old line.now.number (Some (item_found line.now.text found.entry))) }
     {
@@ -71,7 +75,12 @@ impl Draft {
         ensures node { IfOk result (λ node. node ≡ node_of self.old number) }
         ensures after { OnOk result (self.new ≡ no_draft) }
     {
-        let Draft { title, line, body, .. } = mem::replace(self, Draft::new(alloc));
+        let Draft {
+            title,
+            line,
+            body,
+            ..
+        } = mem::replace(self, Draft::new(alloc));
         Ok(Node {
             title: title_or_empty(alloc, title)?,
             line,

@@ -17,6 +17,30 @@ pub(crate) enum Mode {
     InBody,
 }
 
+// Which bytes no plain line of this form has.
+const IS_SPECIAL: [bool; 256] = [
+    false, false, false, false, false, false, false, false, false, false, false, false, false,
+    false, false, false, false, false, false, false, false, false, false, false, false, false,
+    false, false, false, false, false, false, false, false, false, true, false, false, false,
+    false, false, false, false, false, false, false, false, true, false, false, false, false,
+    false, false, false, false, false, false, false, false, true, false, true, false, false, false,
+    false, false, false, false, false, false, false, false, false, false, false, false, false,
+    false, false, false, false, false, false, false, false, false, false, false, false, true, true,
+    true, false, false, false, false, false, false, false, false, false, false, false, false,
+    false, false, false, false, false, false, false, false, false, false, false, false, false,
+    false, false, false, false, true, false, true, false, false, false, false, false, false, false,
+    false, false, false, false, false, false, false, false, false, false, false, false, false,
+    false, false, false, false, false, false, false, false, false, false, false, false, false,
+    false, false, false, false, false, false, false, false, false, false, false, false, false,
+    false, false, false, false, false, false, false, false, false, false, false, false, false,
+    false, false, false, false, false, false, false, false, false, false, false, false, false,
+    false, false, false, false, false, false, false, false, false, false, false, false, false,
+    false, false, false, false, false, false, false, false, false, false, false, false, false,
+    false, false, false, false, false, false, false, false, false, false, false, false, false,
+    false, false, false, false, false, false, false, false, false, false, false, false, false,
+    false, false, false, false, false, false,
+];
+
 /// The item of a line.
 #[derive(Clone, Copy, Debug)]
 pub(crate) enum Found<'a> {
@@ -98,13 +122,7 @@ pub(crate) fn name_in(bytes: &[u8]) -> Option<&str>
     ensures { IsNameIn bytes.now result }
 {
     match str::from_utf8(bytes) {
-        Ok(text) => {
-            if is_name_str(text) {
-                Some(text)
-            } else {
-                None
-            }
-        }
+        Ok(text) => { if is_name_str(text) { Some(text) } else { None } }
         Err(_) => None,
     }
 }
@@ -115,14 +133,10 @@ fn has_special(text: &[u8]) -> bool
     text.iter().any(|byte| is_special_byte(*byte))
 }
 
-// Lower case letters and blanks are told first, since they are most of a text.
 fn is_special_byte(byte: u8) -> bool
     ensures { result ≡ is_special byte }
 {
-    if (b'a'..=b'z').contains(&byte) || byte == b' ' {
-        return false;
-    }
-    b"\\{}[]#/<>".contains(&byte)
+    IS_SPECIAL[usize::from(byte)]
 }
 
 fn jump_in(text: &[u8]) -> Option<Found>
