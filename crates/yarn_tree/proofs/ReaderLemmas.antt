@@ -1,15 +1,14 @@
 -- One line after the other.
-use Rattle.std.proofs.Common.{◌≡◌, ℕ, ◌+◌, ◌<◌, List, ◌∷◌, length, drop, get_or, add-one, drop-cons, refl, ap, ◌∙◌, sym, subst}
+use Rattle.std.proofs.Common.{◌≡◌, ℕ, List, ◌∷◌, ap, ◌∙◌, sym, subst}
 use Rattle.yarn_lines.specs.declared.line.RawLine.{RawLine}
 use Rattle.yarn_tree.specs.declared.reader.Reader.{Reader}
 use Rattle.yarn_tree.specs.declared.refusal.ProjectFault.{ProjectFault}
 use Rattle.yarn_tree.specs.Reader.{reads_on}
 use Rattle.yarn_tree.specs.Reading.{Reading, IsFault}
 
--- a fault at the line of a place is a fault of the whole
-pub fault-at : (lines : List RawLine) (i : ℕ) (line : RawLine) (reader : Reader) (end : ℕ) (whole : Reading) (fault : ProjectFault) →
-    i < length lines → line ≡ get_or lines i line → reads_on reader end (drop i lines) ≡ whole →
+-- a fault at the first of the lines that are left is a fault of the whole
+pub fault-first : (reader : Reader) (end : ℕ) (left rest : List RawLine) (line : RawLine) (whole : Reading) (fault : ProjectFault) →
+    left ≡ line ∷ rest → reads_on reader end left ≡ whole →
     ((end : ℕ) (rest : List RawLine) → IsFault (reads_on reader end (line ∷ rest)) fault) → IsFault whole fault
-fault-at lines i line reader end whole fault lt is so_far at =
-    let front : drop i lines ≡ line ∷ drop (i + 1) lines = rw (add-one, drop-cons lines i line, ← is) refl in
-    subst (λ (r : Reading). IsFault r fault) (ap (reads_on reader end) (sym front) ∙ so_far) (at end (drop (i + 1) lines))
+fault-first reader end left rest line whole fault is so_far at =
+    subst (λ (r : Reading). IsFault r fault) (ap (reads_on reader end) (sym is) ∙ so_far) (at end rest)

@@ -47,7 +47,7 @@ impl Draft {
             Found::Header(key, value) => self.take_header(alloc, key, value)?,
             Found::BodyBegins => self.begin_body(alloc, line.number),
             Found::NodeEnds => return Ok(Some(self.end_node(alloc, line.number)?)),
-            Found::Plain => self.take_line(alloc, line)?,
+            Found::Plain => self.take_line(alloc, line.number, line.text.copy()?)?,
             Found::Jump(name) => self.take_jump(alloc, line.number, name)?,
         }
         Ok(None)
@@ -89,15 +89,15 @@ impl Draft {
         })
     }
 
-    fn take_line(&mut self, alloc: Global, line: &RawLine) -> Result<(), Memory>
-        ensures { OnOk result (self.new ≡ line_taken self.old line.now.number line.now.text) }
+    /// Takes a line that is said.
+    pub(crate) fn take_line(&mut self, alloc: Global, number: u32, text: Text) -> Result<(), Memory>
+        ensures { OnOk result (self.new ≡ line_taken self.old number text) }
     {
         let title = self.title.as_ref().map_or("", |title| title.as_str());
         let id = line_id_for(alloc, title, self.said)?;
         let said = self.said.checked_add(1).ok_or(Memory)?;
-        let text = line.text.copy()?;
         self.add(Stmt::Line(LineText {
-            line: line.number,
+            line: number,
             id,
             text,
         }))?;
@@ -142,5 +142,7 @@ fn text_from(alloc: Global, value: &[u8]) -> Result<Text, Memory>
 fn line_id_for(alloc: Global, title: &str, before: u64) -> Result<Text, Memory>
     ensures { IfOk result (λ id. id ≡ line_id title.now before) }
 {
-    Ok(Text::from_string(format!(in alloc; "line:{title}-{before}")?))
+    let mut id = String::with_capacity(alloc, title.len().saturating_add(26))?;
+    write!(id, "line:{title}-{before}")?;
+    Ok(Text::from_string(id))
 }

@@ -18,7 +18,7 @@ pub fn read_file(alloc: Global, file: &SourceFile) -> Result<File, ProjectFault>
 {
     test_built(alloc, &file.bytes)?;
     let lines = read_lines(alloc, &file.bytes)?;
-    let nodes = read_nodes(alloc, &lines)?;
+    let nodes = read_nodes(alloc, lines)?;
     match file.name.copy() {
         Ok(name) => Ok(File { name, nodes }),
         Err(_) => Err(ProjectFault::Memory),
@@ -50,16 +50,17 @@ fn read_lines(alloc: Global, bytes: &List<u8>) -> Result<Lines, ProjectFault>
     }
 }
 
-fn read_nodes(alloc: Global, lines: &Lines) -> Result<List<Node>, ProjectFault>
-    ensures { MatchResult result (λ nodes. lines_read lines.now ≡ Reads nodes) (λ fault. IsFault (lines_read lines.now) fault) }
+fn read_nodes(alloc: Global, lines: Lines) -> Result<List<Node>, ProjectFault>
+    ensures { MatchResult result (λ nodes. lines_read lines ≡ Reads nodes) (λ fault. IsFault (lines_read lines) fault) }
 {
+    let Lines { lines, end } = lines;
     let mut reader = Reader::new(alloc);
-    for line in lines.lines.as_slice() {
+    for line in lines.into_vec() {
         if let Err(fault) = reader.take(alloc, line) {
             return Err(fault);
         }
     }
-    reader.finish(alloc, lines.end)
+    reader.finish(alloc, end)
 }
 
 pub(crate) fn test_jumps(alloc: Global, nodes: List<Node>) -> Result<List<Node>, ProjectFault>

@@ -1,9 +1,13 @@
 //! Reads the lines of a file one by one: its nodes so far, and the first line that stands where it may not.
-ghost use Rattle.std.specs.Prelude.{◌≡◌, ◌∷◌, [], List, ℕ, MatchResult};
+ghost use Rattle.std.specs.Prelude.{◌≡◌, ◌∷◌, [], List, ℕ, Some, IfErr, OnOk, MatchResult};
 ghost use Rattle.yarn_lines.specs.declared.line.RawLine.{RawLine as RawLineOf};
+ghost use Rattle.yarn_tree.specs.Form.{item_of};
+ghost use Rattle.yarn_tree.specs.Item.{Plain};
+ghost use Rattle.yarn_tree.specs.View.{item_found};
 ghost use Rattle.yarn_tree.specs.Reading.{Reads, IsFault};
 
 use crate::draft::Draft;
+use crate::item::Found;
 use crate::read::{refused, test_jumps};
 use crate::structure::{end_misplaced, is_misplaced_at, item_at, waits_behind};
 use crate::{Node, ProjectFault, RefusalKind};
@@ -34,16 +38,36 @@ impl Reader {
     }
 
     /// Takes a line; a line that is nothing in its place is refused.
-    pub(crate) fn take(&mut self, alloc: Global, line: &RawLine) -> Result<(), ProjectFault>
+    pub(crate) fn take(&mut self, alloc: Global, line: RawLine) -> Result<(), ProjectFault>
         ensures { MatchResult result
-            (λ _. (end : ℕ) (lines : List RawLineOf) → reads_on self.old end (line.now ∷ lines) ≡ reads_on self.new end lines)
-            (λ fault. (end : ℕ) (lines : List RawLineOf) → IsFault (reads_on self.old end (line.now ∷ lines)) fault) }
+            (λ _. (end : ℕ) (lines : List RawLineOf) → reads_on self.old end (line ∷ lines) ≡ reads_on self.new end lines)
+            (λ fault. (end : ℕ) (lines : List RawLineOf) → IsFault (reads_on self.old end (line ∷ lines)) fault) }
     {
-        let mode = self.draft.mode;
-        let Some(found) = item_at(mode, line) else {
-            return Err(refused(RefusalKind::BadLine, line.number));
-        };
-        if is_misplaced_at(mode, found) && self.misplaced.is_none() {
+        match item_at(self.draft.mode, &line) {
+            Some(Found::Plain) => self.take_plain(alloc, line),
+            Some(found) => self.take_item(alloc, &line, found),
+            None => Err(refused(RefusalKind::BadLine, line.number)),
+        }
+    }
+
+    // A line that is said; its text is kept.
+    fn take_plain(&mut self, alloc: Global, line: RawLine) -> Result<(), ProjectFault>
+        requires { item_of self.old.draft.mode line.text ≡ Some (Plain line.text) }
+        ensures on { OnOk result ((end : ℕ) (lines : List RawLineOf) → reads_on self.old end (line ∷ lines) ≡ reads_on self.new end lines) }
+        ensures err { IfErr result (λ fault. fault ≡ ProjectFault.Memory) }
+    {
+        match self.draft.take_line(alloc, line.number, line.text) {
+            Ok(()) => Ok(()),
+            Err(_) => Err(ProjectFault::Memory),
+        }
+    }
+
+    fn take_item(&mut self, alloc: Global, line: &RawLine, found: Found) -> Result<(), ProjectFault>
+        requires { item_of self.old.draft.mode line.now.text ≡ Some (item_found line.now.text found) }
+        ensures on { OnOk result ((end : ℕ) (lines : List RawLineOf) → reads_on self.old end (line.now ∷ lines) ≡ reads_on self.new end lines) }
+        ensures err { IfErr result (λ fault. fault ≡ ProjectFault.Memory) }
+    {
+        if is_misplaced_at(self.draft.mode, found) && self.misplaced.is_none() {
             self.misplaced = Some(line.number);
         }
         self.waits = waits_behind(self.waits, found);
