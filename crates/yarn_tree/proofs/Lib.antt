@@ -1,4 +1,10 @@
+pub mod BodyLemmas
+pub mod FormLemmas
+pub mod FoundLemmas
 pub mod ItemLemmas
 pub mod JumpsLemmas
+pub mod LawLemmas
+pub mod LinesLemmas
 pub mod NamesLemmas
 pub mod NotBuiltLemmas
+pub mod ProjectLemmas
