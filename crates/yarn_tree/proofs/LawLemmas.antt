@@ -15,9 +15,10 @@ use Rattle.yarn_tree.specs.Structure.{first_bad_line, first_misplaced}
 use Rattle.yarn_tree.specs.Nodes.{no_draft, nodes_from}
 use Rattle.yarn_tree.specs.Jumps.{titles, first_unknown}
 use Rattle.yarn_tree.specs.Reading.{Reading, Reads, Refuses, unless, nodes_read, lines_read, reading_of}
-use Rattle.yarn_tree.specs.Laws.{IsBadLineAt, IsBadlyBuilt}
+use Rattle.yarn_tree.specs.Laws.{IsBadLineAt, IsBadlyBuilt, IsMisplacedAt}
 use Rattle.yarn_tree.proofs.ProjectLemmas.{nodes_by, misplaced_by, nodes-read, nodes-fine}
 use Rattle.yarn_tree.proofs.FoundLemmas.{nodes-found}
+use Rattle.yarn_tree.proofs.PlaceLemmas.{misplaced-found, misplaced-told}
 use Rattle.yarn_tree.proofs.LinesLemmas.{readable-found, readable-told, items-fit, one_items, items-nodes, items-misplaced, items-fine, fine-items, bad-found, bad-told}
 
 unless-none : (kind : RefusalKind) (o : Option ℕ) (next : Reading) → o ≡ None → unless kind o next ≡ next
@@ -171,3 +172,32 @@ bad_structure bytes built readable =
     let same = readable-reading bytes built readable in
     (λ told. structure-found bytes told.0 (sym same ∙ told.1),
     λ is. let told = structure-only bytes is in (told.0, same ∙ told.1))
+
+-- where BadStructure stands
+abbrev Misplaced : List ℕ → ℕ → Type 0
+Misplaced bytes number = (items : List ItemAt) × IsItems InHeaders (lines_of bytes).lines items × IsMisplacedAt items (lines_of bytes).end number
+
+place-found : (bytes : List ℕ) (number : ℕ) → lines_read (lines_of bytes) ≡ Refuses BadStructure number → Misplaced bytes number
+place-found bytes number is =
+    let lines = (lines_of bytes).lines in
+    let end = (lines_of bytes).end in
+    let told = bad_structure-told (first_bad_line InHeaders lines) (first_misplaced InHeaders false end lines) (nodes_from no_draft lines) number is in
+    let has = fine-items InHeaders lines told.0 in
+    let place : misplaced_by InHeaders false end has.0 ≡ Some number = sym (items-misplaced InHeaders false end lines has.0 has.1) ∙ told.1 in
+    (has.0, has.1, misplaced-found has.0 end number (items-fit InHeaders lines has.0 has.1) place)
+
+place-only : (bytes : List ℕ) (number : ℕ) → Misplaced bytes number → lines_read (lines_of bytes) ≡ Refuses BadStructure number
+place-only bytes number is =
+    let lines = (lines_of bytes).lines in
+    let end = (lines_of bytes).end in
+    let place = misplaced-told is.0 end number (items-fit InHeaders lines is.0 is.1) is.2 in
+    unless-none BadLine (first_bad_line InHeaders lines) (unless BadStructure (first_misplaced InHeaders false end lines) (nodes_read (nodes_from no_draft lines)))
+    (items-fine InHeaders lines is.0 is.1)
+    ∙ unless-some BadStructure (first_misplaced InHeaders false end lines) (nodes_read (nodes_from no_draft lines)) number
+    (items-misplaced InHeaders false end lines is.0 is.1 ∙ place)
+
+pub bad_structure-place : (bytes : List ℕ) (number : ℕ) → not_built bytes ≡ None → IsReadable bytes →
+    (reading_of bytes ≡ Refuses BadStructure number) ↔ Misplaced bytes number
+bad_structure-place bytes number built readable =
+    let same = readable-reading bytes built readable in
+    (λ told. place-found bytes number (sym same ∙ told), λ is. same ∙ place-only bytes number is)

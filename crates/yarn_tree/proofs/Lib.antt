@@ -7,4 +7,5 @@ pub mod LawLemmas
 pub mod LinesLemmas
 pub mod NamesLemmas
 pub mod NotBuiltLemmas
+pub mod PlaceLemmas
 pub mod ProjectLemmas

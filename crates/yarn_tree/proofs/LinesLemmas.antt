@@ -62,7 +62,7 @@ readable-told bytes is = (pieces-good 1 (pieces_in bytes) is.0, pieces-short 1 (
 
 -- Items of lines.
 
-mode-next : (mode : Mode) (item : Item) → mode_after mode (Some item) ≡ next_mode mode item
+pub mode-next : (mode : Mode) (item : Item) → mode_after mode (Some item) ≡ next_mode mode item
 mode-next mode (HeaderOf key value) = refl
 mode-next mode BodyBegins = refl
 mode-next mode NodeEnds = refl

@@ -149,7 +149,7 @@ nodes-read (first_node {items = items} {rest = rest} {node = node} {nodes = node
 
 -- Nodes stand where they may.
 
-first-headers : {xs : List ItemAt} {title : Option (List ℕ)} → FirstTitle xs title → AreHeaders xs
+pub first-headers : {xs : List ItemAt} {title : Option (List ℕ)} → FirstTitle xs title → AreHeaders xs
 first-headers untitled = no_header
 first-headers (titled is more) = header is more
 first-headers (other is differs more) = header is (first-headers more)

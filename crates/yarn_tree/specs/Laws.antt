@@ -65,3 +65,21 @@ pub record IsBadlyBuilt (lines : List RawLine) : Type 0 where
 abbrev pub BadStructureIsRight : Type 0
 BadStructureIsRight = (bytes : List ℕ) → not_built bytes ≡ None → IsReadable bytes →
     ((number : ℕ) × (reading_of bytes ≡ Refuses BadStructure number)) ↔ IsBadlyBuilt (lines_of bytes).lines
+
+-- nodes may begin with these items
+pub record BeginNodes (items : List ItemAt) : Type 0 where
+  pub more : List ItemAt
+  pub nodes : List Node
+  pub are : AreNodes (items ++ more) nodes
+
+-- the place where items stop to be the items of nodes: at the first with which no nodes begin, or behind all of them
+pub data IsMisplacedAt (items : List ItemAt) (end number : ℕ) : Type 0 where
+  at_line : (before behind : List ItemAt) (x : ItemAt) → items ≡ before ++ x ∷ behind → BeginNodes before →
+      (BeginNodes (before ++ x ∷ []) → ⊥) → x.line ≡ number → IsMisplacedAt items end number
+  at_end : BeginNodes items → ((nodes : List Node) → AreNodes items nodes → ⊥) → end ≡ number → IsMisplacedAt items end number
+
+-- BadStructure names that place; the end place of the file is the place behind all its lines
+abbrev pub BadStructureHasItsPlace : Type 0
+BadStructureHasItsPlace = (bytes : List ℕ) (number : ℕ) → not_built bytes ≡ None → IsReadable bytes →
+    (reading_of bytes ≡ Refuses BadStructure number) ↔
+    ((items : List ItemAt) × IsItems InHeaders (lines_of bytes).lines items × IsMisplacedAt items (lines_of bytes).end number)

@@ -1,6 +1,6 @@
 //! Laws that tie the reading of a file to what its text stands for (docs/language.md, Nodes and Refusals of a
 //! project). Each is proved as the contract of a function that does nothing.
-ghost use Rattle.yarn_tree.specs.Laws.{ItemsAreFound, OneItem, NoItemIsLeft, ReadStandsFor, StandingIsRead, OneProject, BadLineIsRight, BadStructureIsRight};
+ghost use Rattle.yarn_tree.specs.Laws.{ItemsAreFound, OneItem, NoItemIsLeft, ReadStandsFor, StandingIsRead, OneProject, BadLineIsRight, BadStructureIsRight, BadStructureHasItsPlace};
 
 /// The item that is found of a line is the one that its text is.
 pub fn items_are_found()
@@ -40,4 +40,10 @@ pub fn bad_line_is_right()
 /// `BadStructure` is told exactly where all lines have items, and no nodes have these.
 pub fn bad_structure_is_right()
     ensures { BadStructureIsRight }
+{}
+
+/// `BadStructure` names the first line with which the items so far begin no nodes; and the file's end place,
+/// where nodes begin with all of them, but they are the items of none.
+pub fn bad_structure_has_its_place()
+    ensures { BadStructureHasItsPlace }
 {}
