@@ -9,16 +9,17 @@ use Rattle.yarn_tree.specs.declared.refusal.RefusalKind.{RefusalKind}
 use Rattle.yarn_tree.specs.declared.refusal.RefusalKind.TheVariants.{NotBuilt, BadUtf8, LineTooLong, BadLine, BadStructure, UnknownNode}
 use Rattle.yarn_tree.specs.declared.tree.Node.{Node}
 use Rattle.yarn_tree.specs.Body.{ItemAt}
-use Rattle.yarn_tree.specs.Project.{IsItems, AreNodes, IsReadable, StandsFor}
+use Rattle.yarn_tree.specs.Project.{IsItems, AreNodes, IsReadable, StandsFor, AreKnown, jumps_of}
 use Rattle.yarn_tree.specs.NotBuilt.{not_built}
 use Rattle.yarn_tree.specs.Structure.{first_bad_line, first_misplaced}
 use Rattle.yarn_tree.specs.Nodes.{no_draft, nodes_from}
 use Rattle.yarn_tree.specs.Jumps.{titles, first_unknown}
 use Rattle.yarn_tree.specs.Reading.{Reading, Reads, Refuses, unless, nodes_read, lines_read, reading_of}
-use Rattle.yarn_tree.specs.Laws.{IsBadLineAt, IsBadlyBuilt, IsMisplacedAt}
+use Rattle.yarn_tree.specs.Laws.{IsBadLineAt, IsBadlyBuilt, IsMisplacedAt, IsUnknownAt}
 use Rattle.yarn_tree.proofs.ProjectLemmas.{nodes_by, misplaced_by, nodes-read, nodes-fine}
 use Rattle.yarn_tree.proofs.FoundLemmas.{nodes-found}
 use Rattle.yarn_tree.proofs.PlaceLemmas.{misplaced-found, misplaced-told}
+use Rattle.yarn_tree.proofs.KnownLemmas.{known-found, known-told, unknown-found, unknown-told}
 use Rattle.yarn_tree.proofs.LinesLemmas.{readable-found, readable-told, items-fit, one_items, items-nodes, items-misplaced, items-fine, fine-items, bad-found, bad-told}
 
 unless-none : (kind : RefusalKind) (o : Option ℕ) (next : Reading) → o ≡ None → unless kind o next ≡ next
@@ -36,28 +37,50 @@ unless-reads kind (Some line) next nodes is = absurd cc
 has-nodes : (lines : List RawLine) (items : List ItemAt) → IsItems InHeaders lines items → nodes_from no_draft lines ≡ nodes_by no_draft items
 has-nodes lines items is = items-nodes no_draft InHeaders lines items refl is
 
-pub found : (bytes : List ℕ) (nodes : List Node) → reading_of bytes ≡ Reads nodes → StandsFor bytes nodes
-found bytes nodes reads =
+-- lines at which nothing is refused are those of a file that stands for the nodes
+stands-from : (bytes : List ℕ) → first_bad bytes ≡ None → first_long bytes ≡ None → first_bad_line InHeaders (lines_of bytes).lines ≡ None →
+    first_misplaced InHeaders false (lines_of bytes).end (lines_of bytes).lines ≡ None → StandsFor bytes (nodes_from no_draft (lines_of bytes).lines)
+stands-from bytes good short fine placed =
     let lines = (lines_of bytes).lines in
     let end = (lines_of bytes).end in
-    let after_bad = unless BadStructure (first_misplaced InHeaders false end lines) (nodes_read (nodes_from no_draft lines)) in
+    let has = fine-items InHeaders lines fine in
+    let fine : misplaced_by InHeaders false end has.0 ≡ None = sym (items-misplaced InHeaders false end lines has.0 has.1) ∙ placed in
+    let are = nodes-found end has.0 (items-fit InHeaders lines has.0 has.1) fine in
+    record {
+      items = has.0;
+      readable = readable-found bytes good short;
+      has_items = has.1;
+      are_nodes = subst (AreNodes has.0) (sym (has-nodes lines has.0 has.1)) are;
+    }
+
+-- what is known of a file that is read
+record IsRead (bytes : List ℕ) (nodes : List Node) : Type 0 where
+  pub built : not_built bytes ≡ None
+  pub stands : StandsFor bytes nodes
+  pub known : first_unknown (titles nodes) nodes ≡ None
+
+read-all : (bytes : List ℕ) (nodes : List Node) → reading_of bytes ≡ Reads nodes → IsRead bytes nodes
+read-all bytes nodes reads =
+    let lines = (lines_of bytes).lines in
+    let end = (lines_of bytes).end in
+    let all = nodes_from no_draft lines in
+    let after_bad = unless BadStructure (first_misplaced InHeaders false end lines) (nodes_read all) in
     let after_utf8 = unless LineTooLong (first_long bytes) (lines_read (lines_of bytes)) in
     let a = unless-reads NotBuilt (not_built bytes) (unless BadUtf8 (first_bad bytes) after_utf8) nodes reads in
     let b = unless-reads BadUtf8 (first_bad bytes) after_utf8 nodes a.1 in
     let c = unless-reads LineTooLong (first_long bytes) (lines_read (lines_of bytes)) nodes b.1 in
     let d = unless-reads BadLine (first_bad_line InHeaders lines) after_bad nodes c.1 in
-    let e = unless-reads BadStructure (first_misplaced InHeaders false end lines) (nodes_read (nodes_from no_draft lines)) nodes d.1 in
-    let f = unless-reads UnknownNode (first_unknown (titles (nodes_from no_draft lines)) (nodes_from no_draft lines)) (Reads (nodes_from no_draft lines)) nodes e.1 in
-    let has = fine-items InHeaders lines d.0 in
-    let same : nodes_from no_draft lines ≡ nodes = let told = f.1 in cc in
-    let fine : misplaced_by InHeaders false end has.0 ≡ None = sym (items-misplaced InHeaders false end lines has.0 has.1) ∙ e.0 in
-    let are = nodes-found end has.0 (items-fit InHeaders lines has.0 has.1) fine in
+    let e = unless-reads BadStructure (first_misplaced InHeaders false end lines) (nodes_read all) nodes d.1 in
+    let f = unless-reads UnknownNode (first_unknown (titles all) all) (Reads all) nodes e.1 in
+    let same : all ≡ nodes = let told = f.1 in cc in
     record {
-      items = has.0;
-      readable = readable-found bytes b.0 c.0;
-      has_items = has.1;
-      are_nodes = subst (AreNodes has.0) (sym (has-nodes lines has.0 has.1) ∙ same) are;
+      built = a.0;
+      stands = subst (StandsFor bytes) same (stands-from bytes b.0 c.0 d.0 e.0);
+      known = subst (λ n. first_unknown (titles n) n ≡ None) same f.0;
     }
+
+pub found : (bytes : List ℕ) (nodes : List Node) → reading_of bytes ≡ Reads nodes → StandsFor bytes nodes
+found bytes nodes reads = (read-all bytes nodes reads).stands
 
 readable-reading : (bytes : List ℕ) → not_built bytes ≡ None → IsReadable bytes → reading_of bytes ≡ lines_read (lines_of bytes)
 readable-reading bytes built readable =
@@ -67,9 +90,9 @@ readable-reading bytes built readable =
     ∙ unless-none BadUtf8 (first_bad bytes) after_utf8 told.0
     ∙ unless-none LineTooLong (first_long bytes) (lines_read (lines_of bytes)) told.1
 
-pub only : (bytes : List ℕ) (nodes : List Node) → StandsFor bytes nodes → not_built bytes ≡ None → first_unknown (titles nodes) nodes ≡ None →
-    reading_of bytes ≡ Reads nodes
-only bytes nodes stands built known =
+-- what is read of a file that stands for nodes: what is read of these
+stands-reading : (bytes : List ℕ) (nodes : List Node) → StandsFor bytes nodes → not_built bytes ≡ None → reading_of bytes ≡ nodes_read nodes
+stands-reading bytes nodes stands built =
     let lines = (lines_of bytes).lines in
     let end = (lines_of bytes).end in
     let after_bad = unless BadStructure (first_misplaced InHeaders false end lines) (nodes_read (nodes_from no_draft lines)) in
@@ -79,7 +102,17 @@ only bytes nodes stands built known =
     ∙ unless-none BadStructure (first_misplaced InHeaders false end lines) (nodes_read (nodes_from no_draft lines))
     (items-misplaced InHeaders false end lines stands.items stands.has_items ∙ nodes-fine end stands.are_nodes)
     ∙ ap nodes_read same
-    ∙ unless-none UnknownNode (first_unknown (titles nodes) nodes) (Reads nodes) known
+
+pub only : (bytes : List ℕ) (nodes : List Node) → StandsFor bytes nodes → not_built bytes ≡ None → first_unknown (titles nodes) nodes ≡ None →
+    reading_of bytes ≡ Reads nodes
+only bytes nodes stands built known =
+    stands-reading bytes nodes stands built ∙ unless-none UnknownNode (first_unknown (titles nodes) nodes) (Reads nodes) known
+
+pub exactly : (bytes : List ℕ) (nodes : List Node) →
+    (reading_of bytes ≡ Reads nodes) ↔ ((not_built bytes ≡ None) × StandsFor bytes nodes × AreKnown nodes (jumps_of nodes))
+exactly bytes nodes =
+    (λ reads. let all = read-all bytes nodes reads in (all.built, all.stands, known-found nodes all.known),
+    λ is. only bytes nodes is.1 is.0 (known-told nodes is.2))
 
 pub one_project : (bytes : List ℕ) (a b : List Node) → StandsFor bytes a → StandsFor bytes b → a ≡ b
 one_project bytes a b x y =
@@ -201,3 +234,38 @@ pub bad_structure-place : (bytes : List ℕ) (number : ℕ) → not_built bytes 
 bad_structure-place bytes number built readable =
     let same = readable-reading bytes built readable in
     (λ told. place-found bytes number (sym same ∙ told), λ is. same ∙ place-only bytes number is)
+
+-- Jumps without a node.
+
+unless-other : (kind other : RefusalKind) (o : Option ℕ) (next : Reading) (number : ℕ) → (kind ≡ other → ⊥) → unless kind o next ≡ Refuses other number →
+    (o ≡ None) × (next ≡ Refuses other number)
+unless-other kind other None next number differs is = (refl, is)
+unless-other kind other (Some line) next number differs is = absurd (differs cc)
+
+unless-this : (kind : RefusalKind) (o : Option ℕ) (nodes : List Node) (number : ℕ) → unless kind o (Reads nodes) ≡ Refuses kind number → o ≡ Some number
+unless-this kind None nodes number is = absurd cc
+unless-this kind (Some line) nodes number is = cc
+
+-- the nodes that a file stands for, one jump of which has no node
+abbrev Unknown : List ℕ → ℕ → Type 0
+Unknown bytes number = (nodes : List Node) × StandsFor bytes nodes × IsUnknownAt nodes number
+
+unknown-nodes : (bytes : List ℕ) (number : ℕ) → reading_of bytes ≡ Refuses UnknownNode number → Unknown bytes number
+unknown-nodes bytes number is =
+    let lines = (lines_of bytes).lines in
+    let end = (lines_of bytes).end in
+    let all = nodes_from no_draft lines in
+    let after_bad = unless BadStructure (first_misplaced InHeaders false end lines) (nodes_read all) in
+    let after_utf8 = unless LineTooLong (first_long bytes) (lines_read (lines_of bytes)) in
+    let a = unless-other NotBuilt UnknownNode (not_built bytes) (unless BadUtf8 (first_bad bytes) after_utf8) number (λ e. absurd cc) is in
+    let b = unless-other BadUtf8 UnknownNode (first_bad bytes) after_utf8 number (λ e. absurd cc) a.1 in
+    let c = unless-other LineTooLong UnknownNode (first_long bytes) (lines_read (lines_of bytes)) number (λ e. absurd cc) b.1 in
+    let d = unless-other BadLine UnknownNode (first_bad_line InHeaders lines) after_bad number (λ e. absurd cc) c.1 in
+    let e = unless-other BadStructure UnknownNode (first_misplaced InHeaders false end lines) (nodes_read all) number (λ e. absurd cc) d.1 in
+    (all, stands-from bytes b.0 c.0 d.0 e.0, unknown-found all number (unless-this UnknownNode (first_unknown (titles all) all) all number e.1))
+
+pub unknown_node : (bytes : List ℕ) (number : ℕ) → not_built bytes ≡ None →
+    (reading_of bytes ≡ Refuses UnknownNode number) ↔ ((nodes : List Node) × StandsFor bytes nodes × IsUnknownAt nodes number)
+unknown_node bytes number built =
+    (unknown-nodes bytes number,
+    λ is. stands-reading bytes is.0 is.1 built ∙ unless-some UnknownNode (first_unknown (titles is.0) is.0) (Reads is.0) number (unknown-told is.0 number is.2))

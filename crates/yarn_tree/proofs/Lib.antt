@@ -3,6 +3,7 @@ pub mod FormLemmas
 pub mod FoundLemmas
 pub mod ItemLemmas
 pub mod JumpsLemmas
+pub mod KnownLemmas
 pub mod LawLemmas
 pub mod LinesLemmas
 pub mod NamesLemmas

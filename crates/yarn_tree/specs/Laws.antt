@@ -5,11 +5,11 @@ use Rattle.yarn_lines.specs.Lines.{lines_of}
 use Rattle.yarn_tree.specs.declared.item.Mode.{Mode}
 use Rattle.yarn_tree.specs.declared.item.Mode.TheVariants.{InHeaders}
 use Rattle.yarn_tree.specs.declared.tree.Node.{Node}
-use Rattle.yarn_tree.specs.declared.refusal.RefusalKind.TheVariants.{BadLine, BadStructure}
+use Rattle.yarn_tree.specs.declared.refusal.RefusalKind.TheVariants.{BadLine, BadStructure, UnknownNode}
 use Rattle.yarn_tree.specs.Item.{Item, IsItem}
 use Rattle.yarn_tree.specs.Form.{item_of}
 use Rattle.yarn_tree.specs.Body.{ItemAt}
-use Rattle.yarn_tree.specs.Project.{IsItems, AreNodes, IsReadable, StandsFor}
+use Rattle.yarn_tree.specs.Project.{IsItems, AreNodes, IsReadable, StandsFor, IsTitled, AreKnown, jumps_of}
 use Rattle.yarn_tree.specs.NotBuilt.{not_built}
 use Rattle.yarn_tree.specs.Jumps.{titles, first_unknown}
 use Rattle.yarn_tree.specs.Reading.{Reads, Refuses, reading_of}
@@ -83,3 +83,24 @@ abbrev pub BadStructureHasItsPlace : Type 0
 BadStructureHasItsPlace = (bytes : List ℕ) (number : ℕ) → not_built bytes ≡ None → IsReadable bytes →
     (reading_of bytes ≡ Refuses BadStructure number) ↔
     ((items : List ItemAt) × IsItems InHeaders (lines_of bytes).lines items × IsMisplacedAt items (lines_of bytes).end number)
+
+-- a file is read exactly where its forms are built, it stands for the nodes, and each jump has its node
+abbrev pub ReadExactly : Type 0
+ReadExactly = (bytes : List ℕ) (nodes : List Node) →
+    (reading_of bytes ≡ Reads nodes) ↔ ((not_built bytes ≡ None) × StandsFor bytes nodes × AreKnown nodes (jumps_of nodes))
+
+-- the first jump that has no node stands at that line
+pub record IsUnknownAt (nodes : List Node) (number : ℕ) : Type 0 where
+  pub before : List (ℕ × List ℕ)
+  pub line : ℕ
+  pub name : List ℕ
+  pub behind : List (ℕ × List ℕ)
+  pub cut : jumps_of nodes ≡ before ++ (line, name) ∷ behind
+  pub known : AreKnown nodes before
+  pub unknown : IsTitled nodes name → ⊥
+  pub place : line ≡ number
+
+-- UnknownNode names the first jump, of the nodes that the file stands for, that has no node
+abbrev pub UnknownNodeIsRight : Type 0
+UnknownNodeIsRight = (bytes : List ℕ) (number : ℕ) → not_built bytes ≡ None →
+    (reading_of bytes ≡ Refuses UnknownNode number) ↔ ((nodes : List Node) × StandsFor bytes nodes × IsUnknownAt nodes number)

@@ -1,10 +1,13 @@
 -- The items of a file's lines, and the nodes that a file stands for (docs/language.md, Nodes).
-use Rattle.std.specs.Prelude.{◌≡◌, ◌≤◌, ℕ, List, [], ◌∷◌, ◌++◌, length, Option, Some, None, All, IsUtf8, ⊤, codes}
+use Rattle.std.specs.Prelude.{◌≡◌, ◌≤◌, ℕ, List, [], ◌∷◌, ◌++◌, length, Option, Some, None, All, IsUtf8, ⊤, ◌⊎◌, codes}
+use Rattle.std.specs.List.{flat_map}
 use Rattle.yarn_lines.specs.declared.line.RawLine.{RawLine}
 use Rattle.yarn_lines.specs.Lines.{pieces_in, lines_of}
 use Rattle.yarn_tree.specs.declared.item.Mode.{Mode}
 use Rattle.yarn_tree.specs.declared.item.Mode.TheVariants.{InHeaders, InBody}
 use Rattle.yarn_tree.specs.declared.tree.Node.{Node}
+use Rattle.yarn_tree.specs.declared.tree.Stmt.{Stmt}
+use Rattle.yarn_tree.specs.declared.tree.Stmt.TheVariants.{Line, Jump}
 use Rattle.yarn_tree.specs.Item.{Item, HeaderOf, BodyBegins, NodeEnds, Plain, JumpTo, IsItem}
 use Rattle.yarn_tree.specs.Body.{ItemAt, Block, HasIds}
 
@@ -73,3 +76,21 @@ pub record StandsFor (bytes : List ℕ) (nodes : List Node) : Type 0 where
   pub readable : IsReadable bytes
   pub has_items : IsItems InHeaders (lines_of bytes).lines items
   pub are_nodes : AreNodes items nodes
+
+-- the jumps of a body in their order: the line and the name of each
+abbrev pub jumps_in : List Stmt → List (ℕ × List ℕ)
+jumps_in [] = []
+jumps_in (Line said ∷ b) = jumps_in b
+jumps_in (Jump head name ∷ b) = (head.line, name) ∷ jumps_in b
+
+abbrev pub jumps_of : List Node → List (ℕ × List ℕ)
+jumps_of nodes = flat_map (λ node. jumps_in node.body) nodes
+
+-- one of the nodes has that title
+abbrev pub IsTitled : List Node → List ℕ → Type 0
+IsTitled [] name = ⊥
+IsTitled (node ∷ nodes) name = (node.title ≡ name) ⊎ IsTitled nodes name
+
+-- each of the jumps has its node
+abbrev pub AreKnown : List Node → List (ℕ × List ℕ) → Type 0
+AreKnown nodes jumps = All (λ jump. IsTitled nodes jump.1) jumps

@@ -1,6 +1,6 @@
 //! Laws that tie the reading of a file to what its text stands for (docs/language.md, Nodes and Refusals of a
 //! project). Each is proved as the contract of a function that does nothing.
-ghost use Rattle.yarn_tree.specs.Laws.{ItemsAreFound, OneItem, NoItemIsLeft, ReadStandsFor, StandingIsRead, OneProject, BadLineIsRight, BadStructureIsRight, BadStructureHasItsPlace};
+ghost use Rattle.yarn_tree.specs.Laws.{ItemsAreFound, OneItem, NoItemIsLeft, ReadStandsFor, StandingIsRead, ReadExactly, OneProject, BadLineIsRight, BadStructureIsRight, BadStructureHasItsPlace, UnknownNodeIsRight};
 
 /// The item that is found of a line is the one that its text is.
 pub fn items_are_found()
@@ -27,6 +27,11 @@ pub fn standing_is_read()
     ensures { StandingIsRead }
 {}
 
+/// A file is read exactly where its forms are built, it stands for nodes, and each of their jumps has a node.
+pub fn read_exactly()
+    ensures { ReadExactly }
+{}
+
 /// A file stands for at most one list of nodes.
 pub fn one_project()
     ensures { OneProject }
@@ -46,4 +51,9 @@ pub fn bad_structure_is_right()
 /// where nodes begin with all of them, but they are the items of none.
 pub fn bad_structure_has_its_place()
     ensures { BadStructureHasItsPlace }
+{}
+
+/// `UnknownNode` names exactly the first jump, of the nodes that the file stands for, that has no node.
+pub fn unknown_node_is_right()
+    ensures { UnknownNodeIsRight }
 {}
