@@ -1,5 +1,5 @@
 -- A block and one statement more.
-use Rattle.std.proofs.Common.{◌≡◌, ℕ, ◌+◌, List, [], ◌∷◌, ◌++◌, codes, decimal, refl, sym, ap, ◌∙◌, subst, ◌⊎◌, inl, inr}
+use Rattle.std.proofs.Common.{◌≡◌, ℕ, ◌+◌, List, [], ◌∷◌, ◌++◌, refl, ap, ◌∙◌, subst, ◌⊎◌, inl, inr}
 use Rattle.yarn_tree.specs.declared.tree.Head.{Head}
 use Rattle.yarn_tree.specs.declared.tree.LineText.{LineText}
 use Rattle.yarn_tree.specs.declared.tree.Stmt.{Stmt}

@@ -1,21 +1,19 @@
 -- The item that is found is the one that the text of a line is.
-use Rattle.std.proofs.Common.{◌≡◌, ℕ, suc, ◌+◌, ◌-◌, ◌<◌, ◌≤◌, List, [], ◌∷◌, ◌++◌, length, take, drop, get_or, Bool, true, false, ◌&&◌, ◌||◌, ◌==◌, nat_eq, nat_lt, cond, Option, Some, None, ◌⊎◌, inl, inr, codes, bytes_eq, chars, encode_utf8, encode_utf8_all, IsUtf8, All, refl, sym, ap, ◌∙◌, subst, arith, append_assoc, append-nil, add-one}
+use Rattle.std.proofs.Common.{◌≡◌, ℕ, suc, ◌+◌, ◌-◌, ◌<◌, ◌≤◌, List, [], ◌∷◌, ◌++◌, length, take, drop, get_or, Bool, true, false, ◌||◌, nat_eq, nat_lt, Option, Some, None, ◌⊎◌, inl, inr, codes, bytes_eq, chars, encode_utf8, encode_utf8_all, refl, sym, ap, ◌∙◌, subst, arith, append_assoc, append-nil, add-one}
 use Rattle.std.specs.List.{list_all, list_any}
 use Rattle.std.specs.Str.{is_utf8}
-use Rattle.std.specs.Cmp.Lexicographic.{pointwise}
-use Rattle.std.proofs.lemmas.Bool.{eqb-true, ne_eqb, or_cases, or_parts, or_from, and_parts, and_from, false_from_ne_true, cases_lt, lt-ltb, ltb-true}
+use Rattle.std.proofs.lemmas.Bool.{eqb-true, or_cases, or_parts, or_from, and_parts, and_from, false_from_ne_true, cases_lt, lt-ltb, ltb-true}
 use Rattle.std.proofs.lemmas.List.{take_at, drop_at, take-append-drop, get_or_default, length-append}
 use Rattle.std.proofs.lemmas.List.Folds.{list_any-append, list_any_none}
 use Rattle.std.proofs.lemmas.Slice.Eq.{bytes_eq-Decides}
-use Rattle.std.proofs.lemmas.Str.{encodes-chars, IsUtf8-from_is_utf8, inside_one, encodes-append}
-use Rattle.unicode_ident.specs.Ident.{is_xid_start, is_xid_continue}
+use Rattle.std.proofs.lemmas.Str.{encodes-chars, IsUtf8-from_is_utf8, inside_one}
 use Rattle.unicode_ident.proofs.IdentLemmas.{is_xid_start-ascii, is_xid_continue-ascii}
 use Rattle.yarn_base.specs.Name.{starts_name, continues_name, is_name_of}
 use Rattle.yarn_lines.specs.Lines.{is_blank, leading, past_leading, without_trailing, begins_with}
 use Rattle.yarn_tree.specs.declared.item.Mode.{Mode}
 use Rattle.yarn_tree.specs.declared.item.Mode.TheVariants.{InHeaders, InBody}
-use Rattle.yarn_tree.specs.Item.{Item, HeaderOf, BodyBegins, NodeEnds, Plain, JumpTo, is_name_text, trimmed, IsHeader, is_special, IsPlain, IsJump, IsItem}
-use Rattle.yarn_tree.specs.Form.{length_to_colon, header_of, ends_with, behind, before, given, name_behind, jump_of, header_item, body_item, item_of}
+use Rattle.yarn_tree.specs.Item.{Item, HeaderOf, BodyBegins, NodeEnds, Plain, JumpTo, is_name_text, trimmed, IsHeader, is_special, IsJump, IsItem}
+use Rattle.yarn_tree.specs.Form.{length_to_colon, ends_with, behind, before, given, name_behind, jump_of, header_item, body_item, item_of}
 
 -- The bytes of a name.
 
@@ -32,6 +30,7 @@ out-small c is = by_or (or_cases (is_blank c) (is_colon c) is)
     by_blank : (nat_eq c 32 ≡ true) ⊎ (nat_eq c 9 ≡ true) → (c ≡ 32) ⊎ ((c ≡ 9) ⊎ (c ≡ 58))
     by_blank (inl e) = inl (eqb-true c 32 e)
     by_blank (inr e) = inr (inl (eqb-true c 9 e))
+
     by_or : (is_blank c ≡ true) ⊎ (is_colon c ≡ true) → (c ≡ 32) ⊎ ((c ≡ 9) ⊎ (c ≡ 58))
     by_or (inl e) = by_blank (or_cases (nat_eq c 32) (nat_eq c 9) e)
     by_or (inr e) = inr (inr (eqb-true c 58 e))
@@ -141,7 +140,8 @@ colon-there (b ∷ bytes) lt = by_test (colon-there bytes) (nat_eq b 58) refl
     by_test later false is =
         let shorter : length_to_colon bytes < length bytes = let h = rw is at lt in omega arith in
         let e = ap (λ l. b ∷ l) (later shorter) in
-        rw is (rw (add-one, add-one) (rw add-one at e))
+        let n = length_to_colon bytes in
+        rw is (rw (add-one n, add-one (suc n)) (rw (add-one n) at e))
 
 trailing-dropped : (key blanks : List ℕ) → list_any is_out key ≡ false → list_all is_blank blanks ≡ true → without_trailing (key ++ blanks) ≡ key
 trailing-dropped [] [] fine is = refl
@@ -207,7 +207,7 @@ header-only text item found = by_begins (bytes_eq text (codes "---")) refl
           blanks = cut.blanks;
           rest = rest;
           split = colon-there text (ltb-true (length_to_colon text) (length text) a) ∙ ap (λ l. l ++ 58 ∷ rest) cut.split
-            ∙ append_assoc key cut.blanks (58 ∷ rest);
+              ∙ append_assoc key cut.blanks (58 ∷ rest);
           named = b;
           between = cut.between;
           valued = refl;
@@ -215,12 +215,14 @@ header-only text item found = by_begins (bytes_eq text (codes "---")) refl
         subst (IsItem InHeaders text) is whole
     by_header x y true false a b = let told = rw (x, y, a, b) at found in absurd cc
     by_header x y false b a e = let told = rw (x, y, a) at found in absurd cc
+
     by_ends : bytes_eq text (codes "---") ≡ false → (t : Bool) → bytes_eq text (codes "===") ≡ t → IsItem InHeaders text item
     by_ends x true is =
         let told : Some NodeEnds ≡ Some item = rw (x, is) at found in
         let same : NodeEnds ≡ item = cc in
         subst (IsItem InHeaders text) same ((bytes_eq-Decides text (codes "===")).0 is)
     by_ends x false is = by_header x is (nat_lt (length_to_colon text) (length text)) (is_name_text (without_trailing (take (length_to_colon text) text))) refl refl
+
     by_begins : (t : Bool) → bytes_eq text (codes "---") ≡ t → IsItem InHeaders text item
     by_begins true is =
         let told : Some BodyBegins ≡ Some item = rw is at found in
@@ -306,7 +308,7 @@ name-only text (b ∷ bytes) item split found = by_test (is_blank b) (is_name_te
           blanks = leading bytes;
           blank = b;
           split = split ∙ ap (λ l. codes "<<jump" ++ (b ∷ (l ++ codes ">>"))) (leading-split bytes)
-            ∙ ap (λ l. codes "<<jump" ++ (b ∷ l)) (append_assoc (leading bytes) name (codes ">>"));
+              ∙ ap (λ l. codes "<<jump" ++ (b ∷ l)) (append_assoc (leading bytes) name (codes ">>"));
           between = and_from (is_blank b) (list_all is_blank (leading bytes)) a (leading-blank bytes);
           named = n;
         } in
@@ -321,6 +323,7 @@ jump-only text item found = by_behind (behind (codes "<<jump") text) refl
     by_before rest split told None is = let h : None ≡ Some item = ap (λ o. given o name_behind) (sym is) ∙ told in absurd cc
     by_before rest split told (Some inner) is =
         name-only text inner item (split ∙ ap (λ l. codes "<<jump" ++ l) (before-only (codes ">>") rest inner is)) (ap (λ o. given o name_behind) (sym is) ∙ told)
+
     by_behind : (o : Option (List ℕ)) → behind (codes "<<jump") text ≡ o → IsItem InBody text item
     by_behind None is = let h : None ≡ Some item = ap (λ o. given (given o (before (codes ">>"))) name_behind) (sym is) ∙ found in absurd cc
     by_behind (Some rest) is =
@@ -336,6 +339,7 @@ body-only text item found = by_ends (bytes_eq text (codes "===")) refl
         let told : Some (Plain text) ≡ Some item = rw (x, is) at found in
         let same : Plain text ≡ item = cc in
         subst (IsItem InBody text) same (refl, is, λ e. let h = (bytes_eq-Decides text (codes "===")).1 e in absurd cc)
+
     by_ends : (t : Bool) → bytes_eq text (codes "===") ≡ t → IsItem InBody text item
     by_ends true is =
         let told : Some NodeEnds ≡ Some item = rw is at found in

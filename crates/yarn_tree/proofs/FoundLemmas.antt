@@ -1,5 +1,5 @@
 -- What is read of items that stand where they may: the nodes whose items they are.
-use Rattle.std.proofs.Common.{◌≡◌, ℕ, ◌+◌, List, [], ◌∷◌, ◌++◌, Bool, true, false, cond, ◌&&◌, is_none, Option, Some, None, codes, bytes_eq, refl, sym, ap, ◌∙◌, subst, append_assoc, append-nil}
+use Rattle.std.proofs.Common.{◌≡◌, ℕ, List, [], ◌∷◌, ◌++◌, Bool, true, false, Option, Some, None, codes, bytes_eq, refl, sym, ap, ◌∙◌, subst, append_assoc}
 use Rattle.std.proofs.lemmas.Slice.Eq.{bytes_eq-Decides}
 use Rattle.yarn_tree.specs.declared.item.Mode.{Mode}
 use Rattle.yarn_tree.specs.declared.item.Mode.TheVariants.{InHeaders, InBody}
@@ -9,10 +9,10 @@ use Rattle.yarn_tree.specs.declared.tree.Stmt.{Stmt}
 use Rattle.yarn_tree.specs.declared.tree.Stmt.TheVariants.{Line, Jump}
 use Rattle.yarn_tree.specs.Item.{Item, HeaderOf, BodyBegins, NodeEnds, Plain, JumpTo}
 use Rattle.yarn_tree.specs.Nodes.{no_draft, title_of, line_id, header_taken, node_of}
-use Rattle.yarn_tree.specs.Body.{ItemAt, IsStatement, Block, empty, statement, said_in, HasIds}
+use Rattle.yarn_tree.specs.Body.{ItemAt, IsStatement, Block, empty, said_in, HasIds}
 use Rattle.yarn_tree.specs.Project.{next_mode, AreHeaders, no_header, header, FirstTitle, untitled, titled, other, IsTitle, IsNode, AreNodes, no_node, first_node}
 use Rattle.yarn_tree.proofs.BodyLemmas.{block-more, HasId, ids-more, no_ids, said_in-line, said_in-jump}
-use Rattle.yarn_tree.proofs.ProjectLemmas.{nodes_by, misplaced_by, nodes_step, misplaced_step, in_headers, in_body, title-kept, title-other, node-cut}
+use Rattle.yarn_tree.proofs.ProjectLemmas.{nodes_by, misplaced_by, nodes_step, misplaced_step, in_headers, in_body, title-kept, node-cut}
 
 -- an item that a line of that mode may be
 abbrev pub FitsMode : Mode → Item → Type 0
@@ -109,6 +109,7 @@ body-found end x xs later_headers later_body hs title begins done b fit fine fou
         let rest = later_body hs title begins (done ++ x ∷ []) (b ++ s ∷ []) rest_fit rest_fine found begun (block-more x s block is) (ids-more (title_of title) b s ids id) in
         subst (AreNodes (hs ++ (begins ∷ (done ++ (x ∷ xs))))) (sym nodes)
         (subst (λ l. AreNodes (hs ++ (begins ∷ l)) (nodes_by (in_body title begins.line (b ++ s ∷ [])) xs)) (append_assoc done (x ∷ []) xs) rest)
+
     by_item : (item : Item) → x.item ≡ item → AreNodes (hs ++ (begins ∷ (done ++ (x ∷ xs)))) (nodes_by (in_body title begins.line b) (x ∷ xs))
     by_item (Plain text) is =
         let said : LineText = record { line = x.line; id = line_id (title_of title) (said_in b); text = text } in

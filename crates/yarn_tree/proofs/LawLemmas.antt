@@ -1,6 +1,5 @@
 -- The laws that tie the reading to what a file stands for.
-use Rattle.std.proofs.Common.{◌≡◌, ◌↔◌, ℕ, List, [], ◌∷◌, ◌++◌, false, Option, Some, None, refl, sym, ap, ◌∙◌, subst}
-use Rattle.yarn_lines.specs.declared.line.Lines.{Lines}
+use Rattle.std.proofs.Common.{◌≡◌, ◌↔◌, ℕ, List, false, Option, Some, None, refl, sym, ap, ◌∙◌, subst}
 use Rattle.yarn_lines.specs.declared.line.RawLine.{RawLine}
 use Rattle.yarn_lines.specs.Lines.{lines_of}
 use Rattle.yarn_lines.specs.Fault.{first_bad, first_long}
@@ -110,9 +109,10 @@ only bytes nodes stands built known =
 
 pub exactly : (bytes : List ℕ) (nodes : List Node) →
     (reading_of bytes ≡ Reads nodes) ↔ ((not_built bytes ≡ None) × StandsFor bytes nodes × AreKnown nodes (jumps_of nodes))
-exactly bytes nodes =
-    (λ reads. let all = read-all bytes nodes reads in (all.built, all.stands, known-found nodes all.known),
-    λ is. only bytes nodes is.1 is.0 (known-told nodes is.2))
+exactly bytes nodes = (
+  λ reads. let all = read-all bytes nodes reads in (all.built, all.stands, known-found nodes all.known),
+  λ is. only bytes nodes is.1 is.0 (known-told nodes is.2),
+)
 
 pub one_project : (bytes : List ℕ) (a b : List Node) → StandsFor bytes a → StandsFor bytes b → a ≡ b
 one_project bytes a b x y =
@@ -188,11 +188,12 @@ structure-only bytes is = by_place (first_misplaced InHeaders false (lines_of by
         (number : ℕ) × (lines_read (lines_of bytes) ≡ Refuses BadStructure number)
     by_place (Some number) told =
         let lines = (lines_of bytes).lines in
-        let end = (lines_of bytes).end in
-        (number,
-        unless-none BadLine (first_bad_line InHeaders lines) (unless BadStructure (first_misplaced InHeaders false end lines) (nodes_read (nodes_from no_draft lines)))
-        (items-fine InHeaders lines is.items is.has_items)
-        ∙ unless-some BadStructure (first_misplaced InHeaders false end lines) (nodes_read (nodes_from no_draft lines)) number told)
+        let end = (lines_of bytes).end in (
+          number,
+          unless-none BadLine (first_bad_line InHeaders lines) (unless BadStructure (first_misplaced InHeaders false end lines) (nodes_read (nodes_from no_draft lines)))
+              (items-fine InHeaders lines is.items is.has_items)
+              ∙ unless-some BadStructure (first_misplaced InHeaders false end lines) (nodes_read (nodes_from no_draft lines)) number told,
+        )
     by_place None told =
         let lines = (lines_of bytes).lines in
         let end = (lines_of bytes).end in
@@ -202,9 +203,10 @@ structure-only bytes is = by_place (first_misplaced InHeaders false (lines_of by
 pub bad_structure : (bytes : List ℕ) → not_built bytes ≡ None → IsReadable bytes →
     ((number : ℕ) × (reading_of bytes ≡ Refuses BadStructure number)) ↔ IsBadlyBuilt (lines_of bytes).lines
 bad_structure bytes built readable =
-    let same = readable-reading bytes built readable in
-    (λ told. structure-found bytes told.0 (sym same ∙ told.1),
-    λ is. let told = structure-only bytes is in (told.0, same ∙ told.1))
+    let same = readable-reading bytes built readable in (
+      λ told. structure-found bytes told.0 (sym same ∙ told.1),
+      λ is. let told = structure-only bytes is in (told.0, same ∙ told.1),
+    )
 
 -- where BadStructure stands
 abbrev Misplaced : List ℕ → ℕ → Type 0
@@ -266,6 +268,7 @@ unknown-nodes bytes number is =
 
 pub unknown_node : (bytes : List ℕ) (number : ℕ) → not_built bytes ≡ None →
     (reading_of bytes ≡ Refuses UnknownNode number) ↔ ((nodes : List Node) × StandsFor bytes nodes × IsUnknownAt nodes number)
-unknown_node bytes number built =
-    (unknown-nodes bytes number,
-    λ is. stands-reading bytes is.0 is.1 built ∙ unless-some UnknownNode (first_unknown (titles is.0) is.0) (Reads is.0) number (unknown-told is.0 number is.2))
+unknown_node bytes number built = (
+  unknown-nodes bytes number,
+  λ is. stands-reading bytes is.0 is.1 built ∙ unless-some UnknownNode (first_unknown (titles is.0) is.0) (Reads is.0) number (unknown-told is.0 number is.2),
+)

@@ -10,7 +10,6 @@ use Rattle.yarn_lines.specs.Fault.{is_bad, first_bad, first_long}
 use Rattle.yarn_tree.specs.declared.draft.Draft.{Draft}
 use Rattle.yarn_tree.specs.declared.item.Mode.{Mode}
 use Rattle.yarn_tree.specs.declared.item.Mode.TheVariants.{InHeaders, InBody}
-use Rattle.yarn_tree.specs.declared.tree.Node.{Node}
 use Rattle.yarn_tree.specs.Item.{Item, HeaderOf, BodyBegins, NodeEnds, Plain, JumpTo, IsItem}
 use Rattle.yarn_tree.specs.Form.{item_of, mode_after}
 use Rattle.yarn_tree.specs.Structure.{first_bad_line, is_misplaced, waits_after, first_misplaced}

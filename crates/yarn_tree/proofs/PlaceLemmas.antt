@@ -1,5 +1,5 @@
 -- The place where items stop to be the items of nodes.
-use Rattle.std.proofs.Common.{◌≡◌, ℕ, List, [], ◌∷◌, ◌++◌, Bool, true, false, cond, Option, Some, None, refl, sym, ap, ◌∙◌, subst, append_assoc}
+use Rattle.std.proofs.Common.{◌≡◌, ℕ, List, [], ◌∷◌, ◌++◌, Bool, true, false, cond, Some, None, refl, sym, ap, ◌∙◌, subst}
 use Rattle.yarn_tree.specs.declared.item.Mode.{Mode}
 use Rattle.yarn_tree.specs.declared.item.Mode.TheVariants.{InHeaders, InBody}
 use Rattle.yarn_tree.specs.declared.tree.Node.{Node}

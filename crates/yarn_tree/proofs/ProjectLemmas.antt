@@ -1,5 +1,5 @@
 -- The items of a file and its nodes: what the reading does with items, and that they are those of the nodes.
-use Rattle.std.proofs.Common.{◌≡◌, ℕ, ◌+◌, List, [], ◌∷◌, ◌++◌, Bool, true, false, cond, ◌&&◌, is_none, Option, Some, None, codes, bytes_eq, refl, sym, ap, ap₂, ◌∙◌, subst, append_assoc, append-nil}
+use Rattle.std.proofs.Common.{◌≡◌, ℕ, ◌+◌, List, [], ◌∷◌, ◌++◌, Bool, true, false, cond, ◌&&◌, is_none, Option, Some, None, codes, bytes_eq, refl, sym, ap, ◌∙◌, subst, append_assoc, append-nil}
 use Rattle.std.proofs.lemmas.Slice.Eq.{bytes_eq-Decides}
 use Rattle.yarn_tree.specs.declared.draft.Draft.{Draft}
 use Rattle.yarn_tree.specs.declared.item.Mode.{Mode}
@@ -12,10 +12,10 @@ use Rattle.yarn_tree.specs.declared.tree.Stmt.TheVariants.{Line, Jump}
 use Rattle.yarn_tree.specs.Item.{Item, HeaderOf, BodyBegins, NodeEnds, Plain, JumpTo}
 use Rattle.yarn_tree.specs.Form.{mode_after}
 use Rattle.yarn_tree.specs.Structure.{is_misplaced, waits_after, misplaced_end}
-use Rattle.yarn_tree.specs.Nodes.{no_draft, title_of, line_id, header_taken, draft_after, node_of, node_ended, and_node}
+use Rattle.yarn_tree.specs.Nodes.{no_draft, title_of, line_id, header_taken, draft_after, node_ended, and_node}
 use Rattle.yarn_tree.specs.Body.{ItemAt, IsStatement, Block, empty, statement, said_in, HasIds}
-use Rattle.yarn_tree.specs.Project.{next_mode, AreHeaders, no_header, header, FirstTitle, untitled, titled, other, IsTitle, IsNode, AreNodes, no_node, first_node}
-use Rattle.yarn_tree.proofs.BodyLemmas.{block-more, HasId, ids-more, no_ids, id-within, said_in-line, said_in-jump}
+use Rattle.yarn_tree.specs.Project.{AreHeaders, no_header, header, FirstTitle, untitled, titled, other, IsTitle, IsNode, AreNodes, no_node, first_node}
+use Rattle.yarn_tree.proofs.BodyLemmas.{HasId, id-within, said_in-line, said_in-jump}
 
 -- the reading, over items
 abbrev pub nodes_by : Draft → List ItemAt → List Node

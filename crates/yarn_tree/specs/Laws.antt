@@ -1,5 +1,5 @@
 -- Laws that tie the reading to what a file stands for.
-use Rattle.std.specs.Prelude.{◌≡◌, ◌↔◌, ℕ, List, [], ◌∷◌, ◌++◌, Option, Some, None}
+use Rattle.std.specs.Prelude.{◌≡◌, ◌↔◌, ℕ, List, [], ◌∷◌, ◌++◌, Some, None}
 use Rattle.yarn_lines.specs.declared.line.RawLine.{RawLine}
 use Rattle.yarn_lines.specs.Lines.{lines_of}
 use Rattle.yarn_tree.specs.declared.item.Mode.{Mode}
