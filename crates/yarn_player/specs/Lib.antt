@@ -1,3 +1,5 @@
 pub mod Meaning
 pub mod Prefix
+pub mod Stands
 pub mod Transcript
+pub mod Walk

@@ -101,12 +101,15 @@ abbrev pub at_node : Option Node → Behaviour → (Node → Behaviour) → Beha
 at_node None none some = none
 at_node (Some n) none some = some n
 
--- a node is entered, its body is done and it is left; then a jump enters the next node
+-- so the node is left: at the end of its body the run is over, and a jump enters the next node
+abbrev pub in_body : (List ℕ → Behaviour → Behaviour) → Node → List Stmt → Behaviour
+in_body enter n ss =
+    after (does_all ss) (emit (NodeEnd n.title) finishes)
+    (λ line name. emit (NodeEnd n.title) (enter name (stands (Faults (record { node = n.title; line = line; name = name })))))
+
+-- a node is entered, its body is done and it is left
 abbrev pub in_node : (List ℕ → Behaviour → Behaviour) → Node → Behaviour
-in_node enter n =
-    emit (NodeStart n.title)
-    (after (does_all n.body) (emit (NodeEnd n.title) finishes)
-      (λ line name. emit (NodeEnd n.title) (enter name (stands (Faults (record { node = n.title; line = line; name = name }))))))
+in_node enter n = emit (NodeStart n.title) (in_body enter n n.body)
 
 -- from the node of that title on, through at most so many nodes; else what stands where no node has it
 abbrev pub from : List Node → ℕ → List ℕ → Behaviour → Behaviour

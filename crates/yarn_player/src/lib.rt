@@ -1,6 +1,16 @@
 //! Plays the nodes of a project.
 #![tactic(auto)]
 
-mod play;
+mod ends;
+mod laws;
+mod page;
+mod run;
+mod titles;
+mod walk;
 
-pub use play::PlayEnd;
+pub use ends::{FaultAt, PlayEnd, PlayFault};
+pub use laws::more_begins_with_fewer;
+pub use run::play;
+
+#[cfg(test)]
+mod tests;

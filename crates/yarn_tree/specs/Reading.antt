@@ -35,7 +35,7 @@ lines_read lines =
     (unless BadStructure (first_misplaced InHeaders false lines.end lines.lines)
     (nodes_read (nodes_from no_draft lines.lines)))
 
-abbrev pub reading_of : List ℕ → Reading
+unfoldable pub reading_of : List ℕ → Reading
 reading_of bytes =
     unless NotBuilt (not_built bytes)
     (unless BadUtf8 (first_bad bytes)

@@ -26,6 +26,7 @@ pub fn read_file(alloc: Global, file: &SourceFile) -> Result<File, ProjectFault>
     }
 }
 
+#[tactic(auto, unfolding(crate::specs::Reading::reading_of))]
 fn test_built(alloc: Global, bytes: &List<u8>) -> Result<(), ProjectFault>
     ensures { MatchResult result (λ _. not_built bytes.now ≡ None) (λ fault. IsFault (reading_of bytes.now) fault) }
 {
@@ -36,6 +37,7 @@ fn test_built(alloc: Global, bytes: &List<u8>) -> Result<(), ProjectFault>
     }
 }
 
+#[tactic(auto, unfolding(crate::specs::Reading::reading_of))]
 fn read_lines(alloc: Global, bytes: &List<u8>) -> Result<Lines, ProjectFault>
     requires short { length bytes.now ≤ 1073741824 }
     requires built { not_built bytes.now ≡ None }

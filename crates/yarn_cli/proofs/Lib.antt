@@ -1,0 +1,4 @@
+pub mod CommandLemmas
+pub mod ReadLemmas
+pub mod RunLemmas
+pub mod WordsLemmas

@@ -1,0 +1,38 @@
+-- The line on the error sink (docs/commands.md, Messages).
+use Rattle.std.specs.Prelude.{ℕ, List, [], ◌∷◌, ◌++◌, codes}
+use Rattle.std.specs.Fmt.{decimal}
+use Rattle.yarn_player.specs.Meaning.{Fault}
+use Rattle.yarn_tree.specs.declared.refusal.RefusalKind.{RefusalKind}
+use Rattle.yarn_tree.specs.declared.refusal.RefusalKind.TheVariants.{NotBuilt, BadUtf8, LineTooLong, BadLine, BadStructure, UnknownNode}
+
+abbrev pub kind_text : RefusalKind → List ℕ
+kind_text NotBuilt = codes "NotBuilt"
+kind_text BadUtf8 = codes "BadUtf8"
+kind_text LineTooLong = codes "LineTooLong"
+kind_text BadLine = codes "BadLine"
+kind_text BadStructure = codes "BadStructure"
+kind_text UnknownNode = codes "UnknownNode"
+
+-- `FILE:LINE: NAME`
+abbrev pub refused : List ℕ → RefusalKind → ℕ → List ℕ
+refused file kind line = file ++ (codes ":" ++ (decimal line ++ (codes ": " ++ (kind_text kind ++ 10 ∷ []))))
+
+-- `FILE:LINE: NODE: UnknownNode NAME`
+abbrev pub faulted : List ℕ → Fault → List ℕ
+faulted file fault =
+    file ++ (codes ":" ++ (decimal fault.line ++ (codes ": " ++ (fault.node ++ (codes ": UnknownNode " ++ (fault.name ++ 10 ∷ []))))))
+
+abbrev pub event_limit : List ℕ
+event_limit = codes "event limit" ++ 10 ∷ []
+
+abbrev pub no_node : List ℕ → List ℕ
+no_node title = codes "no node " ++ (title ++ 10 ∷ [])
+
+abbrev pub cannot_read : List ℕ → List ℕ
+cannot_read name = codes "cannot read " ++ (name ++ 10 ∷ [])
+
+abbrev pub cannot_write : List ℕ
+cannot_write = codes "cannot write output" ++ 10 ∷ []
+
+abbrev pub usage : List ℕ
+usage = codes "usage: yarn check|format|strings|tag|compile|list|play|run|resume|demo" ++ 10 ∷ []

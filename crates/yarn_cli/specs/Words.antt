@@ -1,0 +1,26 @@
+-- What single words of a command may stand for (docs/commands.md, Words).
+use Rattle.std.specs.Prelude.{ℕ, ◌+◌, ◌-◌, ◌*◌, List, [], ◌∷◌, length, nat_eq, nat_lt, Bool, true, false, ◌&&◌, if◌then◌else◌, Option, Some, None}
+use Rattle.std.specs.List.{list_all}
+
+-- a name: it isn't empty, doesn't begin with `-` and has at most 65,536 bytes
+abbrev pub is_name_word : List ℕ → Bool
+is_name_word [] = false
+is_name_word (b ∷ bytes) = if nat_eq b 45 then false else nat_lt (length (b ∷ bytes)) 65537
+
+abbrev pub is_digit : ℕ → Bool
+is_digit b = nat_lt 47 b && nat_lt b 58
+
+-- 1 to 20 decimal digits
+abbrev pub is_number : List ℕ → Bool
+is_number word = nat_lt 0 (length word) && (nat_lt (length word) 21 && list_all is_digit word)
+
+-- the number of digits that stand behind those of a number
+abbrev pub number_behind : ℕ → List ℕ → ℕ
+number_behind n [] = n
+number_behind n (b ∷ digits) = number_behind (n * 10 + (b - 48)) digits
+
+-- a limit of events: 1 to 1000000000
+abbrev pub limit_of : List ℕ → Option ℕ
+limit_of word =
+    if is_number word && (nat_lt 0 (number_behind 0 word) && nat_lt (number_behind 0 word) 1000000001)
+    then Some (number_behind 0 word) else None

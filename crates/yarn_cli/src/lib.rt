@@ -1,0 +1,11 @@
+//! The commands of `yarn`.
+#![tactic(auto)]
+
+mod command;
+mod message;
+mod run;
+mod status;
+mod words;
+
+pub use run::run_yarn;
+pub use status::Status;

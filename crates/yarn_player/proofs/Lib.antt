@@ -1,0 +1,5 @@
+pub mod Found
+pub mod Fuel
+pub mod Prefix
+pub mod Shown
+pub mod Steps
