@@ -59,6 +59,7 @@ record IsRead (bytes : List ℕ) (nodes : List Node) : Type 0 where
   pub known : first_unknown (titles nodes) nodes ≡ None
 
 read-all : (bytes : List ℕ) (nodes : List Node) → reading_of bytes ≡ Reads nodes → IsRead bytes nodes
+unfolding reading_of
 read-all bytes nodes reads =
     let lines = (lines_of bytes).lines in
     let end = (lines_of bytes).end in
@@ -82,6 +83,7 @@ pub found : (bytes : List ℕ) (nodes : List Node) → reading_of bytes ≡ Read
 found bytes nodes reads = (read-all bytes nodes reads).stands
 
 readable-reading : (bytes : List ℕ) → not_built bytes ≡ None → IsReadable bytes → reading_of bytes ≡ lines_read (lines_of bytes)
+unfolding reading_of
 readable-reading bytes built readable =
     let told = readable-told bytes readable in
     let after_utf8 = unless LineTooLong (first_long bytes) (lines_read (lines_of bytes)) in
@@ -253,6 +255,7 @@ abbrev Unknown : List ℕ → ℕ → Type 0
 Unknown bytes number = (nodes : List Node) × StandsFor bytes nodes × IsUnknownAt nodes number
 
 unknown-nodes : (bytes : List ℕ) (number : ℕ) → reading_of bytes ≡ Refuses UnknownNode number → Unknown bytes number
+unfolding reading_of
 unknown-nodes bytes number is =
     let lines = (lines_of bytes).lines in
     let end = (lines_of bytes).end in
