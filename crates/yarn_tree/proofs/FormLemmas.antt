@@ -2,7 +2,7 @@
 use Rattle.std.proofs.Common.{◌≡◌, ℕ, suc, ◌+◌, ◌-◌, ◌<◌, ◌≤◌, List, [], ◌∷◌, ◌++◌, length, take, drop, get_or, Bool, true, false, ◌||◌, nat_eq, nat_lt, Option, Some, None, ◌⊎◌, inl, inr, codes, bytes_eq, chars, encode_utf8, encode_utf8_all, refl, sym, ap, ◌∙◌, subst, arith, append_assoc, append-nil, add-one}
 use Rattle.std.specs.List.{list_all, list_any}
 use Rattle.std.specs.Str.{is_utf8}
-use Rattle.std.proofs.lemmas.Bool.{eqb-true, or_cases, or_parts, or_from, and_parts, and_from, false_from_ne_true, cases_lt, lt-ltb, ltb-true}
+use Rattle.std.proofs.lemmas.Bool.{eqb-true, ne_eqb, cases_eq, or_cases, or_parts, or_from, and_parts, and_from, false_from_ne_true, cases_lt, lt-ltb, ltb-true}
 use Rattle.std.proofs.lemmas.List.{take_at, drop_at, take-append-drop, get_or_default, length-append}
 use Rattle.std.proofs.lemmas.List.Folds.{list_any-append, list_any_none}
 use Rattle.std.proofs.lemmas.Slice.Eq.{bytes_eq-Decides}
@@ -12,7 +12,7 @@ use Rattle.yarn_base.specs.Name.{starts_name, continues_name, is_name_of}
 use Rattle.yarn_lines.specs.Lines.{is_blank, leading, past_leading, without_trailing, begins_with}
 use Rattle.yarn_tree.specs.declared.item.Mode.{Mode}
 use Rattle.yarn_tree.specs.declared.item.Mode.TheVariants.{InHeaders, InBody}
-use Rattle.yarn_tree.specs.Item.{Item, HeaderOf, BodyBegins, NodeEnds, Plain, JumpTo, is_name_text, trimmed, IsHeader, is_special, IsJump, IsItem}
+use Rattle.yarn_tree.specs.Item.{Item, HeaderOf, BodyBegins, NodeEnds, Plain, JumpTo, is_name_text, is_cr, trimmed, IsHeader, is_special, IsJump, IsItem}
 use Rattle.yarn_tree.specs.Form.{length_to_colon, ends_with, behind, before, given, name_behind, jump_of, header_item, body_item, item_of}
 
 -- The bytes of a name.
@@ -20,20 +20,33 @@ use Rattle.yarn_tree.specs.Form.{length_to_colon, ends_with, behind, before, giv
 abbrev is_colon : ℕ → Bool
 is_colon b = nat_eq b 58
 
--- a blank or a colon
+-- a blank, a colon or a carriage return
 abbrev is_out : ℕ → Bool
-is_out b = is_blank b || is_colon b
+is_out b = (is_blank b || is_colon b) || is_cr b
 
-out-small : (c : ℕ) → is_out c ≡ true → (c ≡ 32) ⊎ ((c ≡ 9) ⊎ (c ≡ 58))
-out-small c is = by_or (or_cases (is_blank c) (is_colon c) is)
+out-small : (c : ℕ) → is_out c ≡ true → ((c ≡ 32) ⊎ (c ≡ 9)) ⊎ ((c ≡ 58) ⊎ (c ≡ 13))
+out-small c is = by_cr (or_cases (is_blank c || is_colon c) (is_cr c) is)
   where
-    by_blank : (nat_eq c 32 ≡ true) ⊎ (nat_eq c 9 ≡ true) → (c ≡ 32) ⊎ ((c ≡ 9) ⊎ (c ≡ 58))
-    by_blank (inl e) = inl (eqb-true c 32 e)
-    by_blank (inr e) = inr (inl (eqb-true c 9 e))
+    by_blank : (nat_eq c 32 ≡ true) ⊎ (nat_eq c 9 ≡ true) → ((c ≡ 32) ⊎ (c ≡ 9)) ⊎ ((c ≡ 58) ⊎ (c ≡ 13))
+    by_blank (inl e) = inl (inl (eqb-true c 32 e))
+    by_blank (inr e) = inl (inr (eqb-true c 9 e))
 
-    by_or : (is_blank c ≡ true) ⊎ (is_colon c ≡ true) → (c ≡ 32) ⊎ ((c ≡ 9) ⊎ (c ≡ 58))
+    by_or : (is_blank c ≡ true) ⊎ (is_colon c ≡ true) → ((c ≡ 32) ⊎ (c ≡ 9)) ⊎ ((c ≡ 58) ⊎ (c ≡ 13))
     by_or (inl e) = by_blank (or_cases (nat_eq c 32) (nat_eq c 9) e)
-    by_or (inr e) = inr (inr (eqb-true c 58 e))
+    by_or (inr e) = inr (inl (eqb-true c 58 e))
+
+    by_cr : ((is_blank c || is_colon c) ≡ true) ⊎ (is_cr c ≡ true) → ((c ≡ 32) ⊎ (c ≡ 9)) ⊎ ((c ≡ 58) ⊎ (c ≡ 13))
+    by_cr (inl e) = by_or (or_cases (is_blank c) (is_colon c) e)
+    by_cr (inr e) = inr (inr (eqb-true c 13 e))
+
+in-solid : (b : ℕ) → is_out b ≡ false → is_blank b ≡ false
+in-solid b fine = (or_parts (is_blank b) (is_colon b) (or_parts (is_blank b || is_colon b) (is_cr b) fine).0).0
+
+in-no_colon_byte : (b : ℕ) → is_out b ≡ false → is_colon b ≡ false
+in-no_colon_byte b fine = (or_parts (is_blank b) (is_colon b) (or_parts (is_blank b || is_colon b) (is_cr b) fine).0).1
+
+in-no_cr_byte : (b : ℕ) → is_out b ≡ false → is_cr b ≡ false
+in-no_cr_byte b fine = (or_parts (is_blank b || is_colon b) (is_cr b) fine).1
 
 starts-32 : starts_name 32 ≡ false
 starts-32 = rw (is_xid_start-ascii 32 (omega arith)) refl
@@ -53,31 +66,39 @@ continues-9 = rw (is_xid_continue-ascii 9 (omega arith)) refl
 continues-58 : continues_name 58 ≡ false
 continues-58 = rw (is_xid_continue-ascii 58 (omega arith)) refl
 
-in-test : (test : ℕ → Bool) → test 32 ≡ false → test 9 ≡ false → test 58 ≡ false → (c : ℕ) → test c ≡ true → is_out c ≡ false
-in-test test a b d c is = false_from_ne_true (is_out c) (λ out. of (out-small c out))
+starts-13 : starts_name 13 ≡ false
+starts-13 = rw (is_xid_start-ascii 13 (omega arith)) refl
+
+continues-13 : continues_name 13 ≡ false
+continues-13 = rw (is_xid_continue-ascii 13 (omega arith)) refl
+
+in-test : (test : ℕ → Bool) → test 32 ≡ false → test 9 ≡ false → test 58 ≡ false → test 13 ≡ false → (c : ℕ) → test c ≡ true → is_out c ≡ false
+in-test test a b d r c is = false_from_ne_true (is_out c) (λ out. of (out-small c out))
   where
-    of : (c ≡ 32) ⊎ ((c ≡ 9) ⊎ (c ≡ 58)) → ⊥
-    of (inl e) = let h : test 32 ≡ true = sym (ap test e) ∙ is in absurd cc
-    of (inr (inl e)) = let h : test 9 ≡ true = sym (ap test e) ∙ is in absurd cc
-    of (inr (inr e)) = let h : test 58 ≡ true = sym (ap test e) ∙ is in absurd cc
+    of : ((c ≡ 32) ⊎ (c ≡ 9)) ⊎ ((c ≡ 58) ⊎ (c ≡ 13)) → ⊥
+    of (inl (inl e)) = let h : test 32 ≡ true = sym (ap test e) ∙ is in absurd cc
+    of (inl (inr e)) = let h : test 9 ≡ true = sym (ap test e) ∙ is in absurd cc
+    of (inr (inl e)) = let h : test 58 ≡ true = sym (ap test e) ∙ is in absurd cc
+    of (inr (inr e)) = let h : test 13 ≡ true = sym (ap test e) ∙ is in absurd cc
 
 continues-in : (cs : List ℕ) → list_all continues_name cs ≡ true → list_any is_out cs ≡ false
 continues-in [] is = refl
 continues-in (c ∷ cs) is =
     let both = and_parts (continues_name c) (list_all continues_name cs) is in
-    or_from (is_out c) (list_any is_out cs) (in-test continues_name continues-32 continues-9 continues-58 c both.0) (continues-in cs both.1)
+    or_from (is_out c) (list_any is_out cs) (in-test continues_name continues-32 continues-9 continues-58 continues-13 c both.0) (continues-in cs both.1)
 
 name-in : (cs : List ℕ) → is_name_of cs ≡ true → list_any is_out cs ≡ false
 name-in [] is = refl
 name-in (c ∷ cs) is =
     let both = and_parts (starts_name c) (list_all continues_name cs) is in
-    or_from (is_out c) (list_any is_out cs) (in-test starts_name starts-32 starts-9 starts-58 c both.0) (continues-in cs both.1)
+    or_from (is_out c) (list_any is_out cs) (in-test starts_name starts-32 starts-9 starts-58 starts-13 c both.0) (continues-in cs both.1)
 
 high-in : (b : ℕ) → 128 ≤ b → is_out b ≡ false
 high-in b high = false_from_ne_true (is_out b) (λ out. of (out-small b out))
   where
-    of : (b ≡ 32) ⊎ ((b ≡ 9) ⊎ (b ≡ 58)) → ⊥
-    of (inl e) = omega arith
+    of : ((b ≡ 32) ⊎ (b ≡ 9)) ⊎ ((b ≡ 58) ⊎ (b ≡ 13)) → ⊥
+    of (inl (inl e)) = omega arith
+    of (inl (inr e)) = omega arith
     of (inr (inl e)) = omega arith
     of (inr (inr e)) = omega arith
 
@@ -99,7 +120,7 @@ encodes-in (c ∷ cs) fine =
     list_any-append is_out (encode_utf8 c) (encode_utf8_all cs)
     ∙ or_from (list_any is_out (encode_utf8 c)) (list_any is_out (encode_utf8_all cs)) (encode-in c both.0) (encodes-in cs both.1)
 
--- a name has neither a blank nor a colon
+-- a name has neither a blank nor a colon nor a carriage return
 name-bytes : (bytes : List ℕ) → is_name_text bytes ≡ true → list_any is_out bytes ≡ false
 name-bytes bytes is =
     let both = and_parts (is_utf8 bytes) (is_name_of (chars bytes)) is in
@@ -121,7 +142,30 @@ in-no_colon : (bytes : List ℕ) → list_any is_out bytes ≡ false → list_an
 in-no_colon [] is = refl
 in-no_colon (b ∷ bytes) is =
     let both = or_parts (is_out b) (list_any is_out bytes) is in
-    or_from (is_colon b) (list_any is_colon bytes) (or_parts (is_blank b) (is_colon b) both.0).1 (in-no_colon bytes both.1)
+    or_from (is_colon b) (list_any is_colon bytes) (in-no_colon_byte b both.0) (in-no_colon bytes both.1)
+
+blanks-no_cr : (blanks : List ℕ) → list_all is_blank blanks ≡ true → list_any is_cr blanks ≡ false
+blanks-no_cr [] is = refl
+blanks-no_cr (b ∷ blanks) is =
+    let both = and_parts (is_blank b) (list_all is_blank blanks) is in
+    or_from (is_cr b) (list_any is_cr blanks) (of (or_cases (nat_eq b 32) (nat_eq b 9) both.0)) (blanks-no_cr blanks both.1)
+  where
+    of : (nat_eq b 32 ≡ true) ⊎ (nat_eq b 9 ≡ true) → is_cr b ≡ false
+    of (inl e) = rw (eqb-true b 32 e) refl
+    of (inr e) = rw (eqb-true b 9 e) refl
+
+in-no_cr : (bytes : List ℕ) → list_any is_out bytes ≡ false → list_any is_cr bytes ≡ false
+in-no_cr [] is = refl
+in-no_cr (b ∷ bytes) is =
+    let both = or_parts (is_out b) (list_any is_out bytes) is in
+    or_from (is_cr b) (list_any is_cr bytes) (in-no_cr_byte b both.0) (in-no_cr bytes both.1)
+
+-- two parts without a carriage return
+join-no_cr : (a b : List ℕ) → list_any is_cr a ≡ false → list_any is_cr b ≡ false → list_any is_cr (a ++ b) ≡ false
+join-no_cr a b x y = list_any-append is_cr a b ∙ or_from (list_any is_cr a) (list_any is_cr b) x y
+
+part-no_cr : (a b : List ℕ) → list_any is_cr (a ++ b) ≡ false → list_any is_cr b ≡ false
+part-no_cr a b is = (or_parts (list_any is_cr a) (list_any is_cr b) (sym (list_any-append is_cr a b) ∙ is)).1
 
 colon-at : (front rest : List ℕ) → list_any is_colon front ≡ false → length_to_colon (front ++ 58 ∷ rest) ≡ length front
 colon-at [] rest is = refl
@@ -148,7 +192,7 @@ trailing-dropped [] [] fine is = refl
 trailing-dropped [] (b ∷ blanks) fine is = rw is refl
 trailing-dropped (b ∷ key) blanks fine is =
     let both = or_parts (is_out b) (list_any is_out key) fine in
-    let solid = (or_parts (is_blank b) (is_colon b) both.0).0 in
+    let solid = (in-solid b both.0) in
     let here : list_all is_blank (b ∷ (key ++ blanks)) ≡ false = rw solid refl in
     rw here (ap (λ l. b ∷ l) (trailing-dropped key blanks both.1 is))
 
@@ -172,8 +216,8 @@ other-text text other within none = false_from_ne_true (bytes_eq text other) (λ
     let same = (bytes_eq-Decides text other).0 e in
     omega (arith, ap length_to_colon same, ap length same))
 
-header-found : (text key value : List ℕ) → IsHeader text key value → header_item text ≡ Some (HeaderOf key value)
-header-found text key value h =
+header-found : (text key value : List ℕ) → list_any is_cr text ≡ false → IsHeader text key value → header_item text ≡ Some (HeaderOf key value)
+header-found text key value no_cr h =
     let front = key ++ h.blanks in
     let solid = name-bytes key h.named in
     let no_colon : list_any is_colon front ≡ false =
@@ -189,45 +233,50 @@ header-found text key value h =
     let rest_is : drop (length_to_colon text + 1) text ≡ h.rest =
     ap (λ n. drop (n + 1) text) at ∙ ap (drop (length front + 1)) (split ∙ sym (append_assoc front (58 ∷ []) h.rest))
     ∙ drop_at (front ++ 58 ∷ []) h.rest (length front + 1) one_more in
-    rw (other-text text (codes "---") within refl, other-text text (codes "===") within refl, lt-ltb (length_to_colon text) (length text) within, key_is, h.named, rest_is, ← h.valued) refl
+    let rest_clean : list_any is_cr h.rest ≡ false = part-no_cr (key ++ (h.blanks ++ 58 ∷ [])) h.rest
+    (sym (ap (list_any is_cr) (h.split ∙ ap (λ l. key ++ l) (sym (append_assoc h.blanks (58 ∷ []) h.rest)) ∙ sym (append_assoc key (h.blanks ++ 58 ∷ []) h.rest))) ∙ no_cr) in
+    rw (other-text text (codes "---") within refl, other-text text (codes "===") within refl, lt-ltb (length_to_colon text) (length text) within, key_is, h.named, rest_is, rest_clean, ← h.valued) refl
+
+-- a text that is written out
+written : (text other : List ℕ) → bytes_eq text other ≡ true → list_any is_cr other ≡ false → (list_any is_cr text ≡ false) × (text ≡ other)
+written text other is clean = let same = (bytes_eq-Decides text other).0 is in (ap (list_any is_cr) same ∙ clean, same)
 
 header-only : (text : List ℕ) (item : Item) → header_item text ≡ Some item → IsItem InHeaders text item
 header-only text item found = by_begins (bytes_eq text (codes "---")) refl
   where
-    by_header : bytes_eq text (codes "---") ≡ false → bytes_eq text (codes "===") ≡ false → (a b : Bool) →
-        nat_lt (length_to_colon text) (length text) ≡ a → is_name_text (without_trailing (take (length_to_colon text) text)) ≡ b → IsItem InHeaders text item
-    by_header x y true true a b =
+    by_header : bytes_eq text (codes "---") ≡ false → bytes_eq text (codes "===") ≡ false → (a b r : Bool) →
+        nat_lt (length_to_colon text) (length text) ≡ a → is_name_text (without_trailing (take (length_to_colon text) text)) ≡ b →
+        list_any is_cr (drop (length_to_colon text + 1) text) ≡ r → IsItem InHeaders text item
+    by_header x y true true false a b r =
         let key = without_trailing (take (length_to_colon text) text) in
         let cut = trailing (take (length_to_colon text) text) in
         let rest = drop (length_to_colon text + 1) text in
-        let told : Some (HeaderOf key (trimmed rest)) ≡ Some item = rw (x, y, a, b) at found in
+        let told : Some (HeaderOf key (trimmed rest)) ≡ Some item = rw (x, y, a, b, r) at found in
         let is : HeaderOf key (trimmed rest) ≡ item = cc in
-        let whole : IsHeader text key (trimmed rest) =
-        record {
-          blanks = cut.blanks;
-          rest = rest;
-          split = colon-there text (ltb-true (length_to_colon text) (length text) a) ∙ ap (λ l. l ++ 58 ∷ rest) cut.split
-              ∙ append_assoc key cut.blanks (58 ∷ rest);
-          named = b;
-          between = cut.between;
-          valued = refl;
-        } in
-        subst (IsItem InHeaders text) is whole
-    by_header x y true false a b = let told = rw (x, y, a, b) at found in absurd cc
-    by_header x y false b a e = let told = rw (x, y, a) at found in absurd cc
+        let split : text ≡ key ++ (cut.blanks ++ 58 ∷ rest) =
+        colon-there text (ltb-true (length_to_colon text) (length text) a) ∙ ap (λ l. l ++ 58 ∷ rest) cut.split
+        ∙ append_assoc key cut.blanks (58 ∷ rest) in
+        let whole : IsHeader text key (trimmed rest) = record { blanks = cut.blanks; rest = rest; split = split; named = b; between = cut.between; valued = refl } in
+        let clean : list_any is_cr text ≡ false = ap (list_any is_cr) split
+        ∙ join-no_cr key (cut.blanks ++ 58 ∷ rest) (in-no_cr key (name-bytes key b)) (join-no_cr cut.blanks (58 ∷ rest) (blanks-no_cr cut.blanks cut.between) r) in
+        subst (IsItem InHeaders text) is (clean, whole)
+    by_header x y true true true a b r = let told = rw (x, y, a, b, r) at found in absurd cc
+    by_header x y true false r a b e = let told = rw (x, y, a, b) at found in absurd cc
+    by_header x y false b r a e f = let told = rw (x, y, a) at found in absurd cc
 
     by_ends : bytes_eq text (codes "---") ≡ false → (t : Bool) → bytes_eq text (codes "===") ≡ t → IsItem InHeaders text item
     by_ends x true is =
         let told : Some NodeEnds ≡ Some item = rw (x, is) at found in
         let same : NodeEnds ≡ item = cc in
-        subst (IsItem InHeaders text) same ((bytes_eq-Decides text (codes "===")).0 is)
-    by_ends x false is = by_header x is (nat_lt (length_to_colon text) (length text)) (is_name_text (without_trailing (take (length_to_colon text) text))) refl refl
+        subst (IsItem InHeaders text) same (written text (codes "===") is refl)
+    by_ends x false is = by_header x is (nat_lt (length_to_colon text) (length text)) (is_name_text (without_trailing (take (length_to_colon text) text)))
+        (list_any is_cr (drop (length_to_colon text + 1) text)) refl refl refl
 
     by_begins : (t : Bool) → bytes_eq text (codes "---") ≡ t → IsItem InHeaders text item
     by_begins true is =
         let told : Some BodyBegins ≡ Some item = rw is at found in
         let same : BodyBegins ≡ item = cc in
-        subst (IsItem InHeaders text) same ((bytes_eq-Decides text (codes "---")).0 is)
+        subst (IsItem InHeaders text) same (written text (codes "---") is refl)
     by_begins false is = by_ends is (bytes_eq text (codes "===")) refl
 
 -- Jumps.
@@ -252,7 +301,7 @@ leading-dropped : (blanks name : List ℕ) → list_all is_blank blanks ≡ true
 leading-dropped [] [] is fine = refl
 leading-dropped [] (b ∷ name) is fine =
     let both = or_parts (is_out b) (list_any is_out name) fine in
-    rw (or_parts (is_blank b) (is_colon b) both.0).0 refl
+    rw (in-solid b both.0) refl
 leading-dropped (b ∷ blanks) name is fine =
     let both = and_parts (is_blank b) (list_all is_blank blanks) is in
     rw both.0 (leading-dropped blanks name both.1 fine)
@@ -303,16 +352,16 @@ name-only text (b ∷ bytes) item split found = by_test (is_blank b) (is_name_te
         let name = past_leading bytes in
         let told : Some (JumpTo name) ≡ Some item = rw (a, n) at found in
         let same : JumpTo name ≡ item = cc in
-        let whole : IsJump text name =
-        record {
-          blanks = leading bytes;
-          blank = b;
-          split = split ∙ ap (λ l. codes "<<jump" ++ (b ∷ (l ++ codes ">>"))) (leading-split bytes)
-              ∙ ap (λ l. codes "<<jump" ++ (b ∷ l)) (append_assoc (leading bytes) name (codes ">>"));
-          between = and_from (is_blank b) (list_all is_blank (leading bytes)) a (leading-blank bytes);
-          named = n;
-        } in
-        subst (IsItem InBody text) same whole
+        let parts : text ≡ codes "<<jump" ++ (b ∷ (leading bytes ++ (name ++ codes ">>"))) =
+        split ∙ ap (λ l. codes "<<jump" ++ (b ∷ (l ++ codes ">>"))) (leading-split bytes)
+              ∙ ap (λ l. codes "<<jump" ++ (b ∷ l)) (append_assoc (leading bytes) name (codes ">>")) in
+        let blanks = and_from (is_blank b) (list_all is_blank (leading bytes)) a (leading-blank bytes) in
+        let whole : IsJump text name = record { blanks = leading bytes; blank = b; split = parts; between = blanks; named = n } in
+        let clean : list_any is_cr text ≡ false = ap (list_any is_cr) parts
+        ∙ join-no_cr (codes "<<jump") (b ∷ (leading bytes ++ (name ++ codes ">>"))) refl
+        (join-no_cr (b ∷ leading bytes) (name ++ codes ">>") (blanks-no_cr (b ∷ leading bytes) blanks)
+        (join-no_cr name (codes ">>") (in-no_cr name (name-bytes name n)) refl)) in
+        subst (IsItem InBody text) same (clean, whole)
     by_test true false a n = let told = rw (a, n) at found in absurd cc
     by_test false n a e = let told = rw a at found in absurd cc
 
@@ -330,6 +379,16 @@ jump-only text item found = by_behind (behind (codes "<<jump") text) refl
         by_before rest (behind-only (codes "<<jump") text rest is) (ap (λ o. given (given o (before (codes ">>"))) name_behind) (sym is) ∙ found)
         (before (codes ">>") rest) refl
 
+plain-no_cr : (text : List ℕ) → list_any is_special text ≡ false → list_any is_cr text ≡ false
+plain-no_cr [] is = refl
+plain-no_cr (b ∷ text) is =
+    let both = or_parts (is_special b) (list_any is_special text) is in
+    or_from (is_cr b) (list_any is_cr text) (of (cases_eq b 13)) (plain-no_cr text both.1)
+  where
+    of : (b ≡ 13) ⊎ (b ≡ 13 → ⊥) → is_cr b ≡ false
+    of (inl e) = let h : true ≡ false = sym (ap is_special e) ∙ (or_parts (is_special b) (list_any is_special text) is).0 in absurd cc
+    of (inr differs) = ne_eqb b 13 differs
+
 body-only : (text : List ℕ) (item : Item) → body_item text ≡ Some item → IsItem InBody text item
 body-only text item found = by_ends (bytes_eq text (codes "===")) refl
   where
@@ -338,30 +397,30 @@ body-only text item found = by_ends (bytes_eq text (codes "===")) refl
     by_special x false is =
         let told : Some (Plain text) ≡ Some item = rw (x, is) at found in
         let same : Plain text ≡ item = cc in
-        subst (IsItem InBody text) same (refl, is, λ e. let h = (bytes_eq-Decides text (codes "===")).1 e in absurd cc)
+        subst (IsItem InBody text) same (plain-no_cr text is, (refl, is, λ e. let h = (bytes_eq-Decides text (codes "===")).1 e in absurd cc))
 
     by_ends : (t : Bool) → bytes_eq text (codes "===") ≡ t → IsItem InBody text item
     by_ends true is =
         let told : Some NodeEnds ≡ Some item = rw is at found in
         let same : NodeEnds ≡ item = cc in
-        subst (IsItem InBody text) same ((bytes_eq-Decides text (codes "===")).0 is)
+        subst (IsItem InBody text) same (written text (codes "===") is refl)
     by_ends false is = by_special is (list_any is_special text) refl
 
 -- Items.
 
 pub item-found : (mode : Mode) (text : List ℕ) (item : Item) → IsItem mode text item → item_of mode text ≡ Some item
-item-found InHeaders text (HeaderOf key value) is = header-found text key value is
-item-found InHeaders text BodyBegins is = ap header_item is
-item-found InHeaders text NodeEnds is = ap header_item is
-item-found InHeaders text (Plain own) is = absurd is
-item-found InHeaders text (JumpTo name) is = absurd is
-item-found InBody text (HeaderOf key value) is = absurd is
-item-found InBody text BodyBegins is = absurd is
-item-found InBody text NodeEnds is = ap body_item is
+item-found InHeaders text (HeaderOf key value) is = header-found text key value is.0 is.1
+item-found InHeaders text BodyBegins is = ap header_item is.1
+item-found InHeaders text NodeEnds is = ap header_item is.1
+item-found InHeaders text (Plain own) is = absurd is.1
+item-found InHeaders text (JumpTo name) is = absurd is.1
+item-found InBody text (HeaderOf key value) is = absurd is.1
+item-found InBody text BodyBegins is = absurd is.1
+item-found InBody text NodeEnds is = ap body_item is.1
 item-found InBody text (Plain own) is =
-    let unlike = false_from_ne_true (bytes_eq text (codes "===")) (λ e. is.2 ((bytes_eq-Decides text (codes "===")).0 e)) in
-    rw (unlike, is.1, is.0) refl
-item-found InBody text (JumpTo name) is = jump-found text name is
+    let unlike = false_from_ne_true (bytes_eq text (codes "===")) (λ e. is.1.2 ((bytes_eq-Decides text (codes "===")).0 e)) in
+    rw (unlike, is.1.1, is.1.0) refl
+item-found InBody text (JumpTo name) is = jump-found text name is.1
 
 pub item-only : (mode : Mode) (text : List ℕ) (item : Item) → item_of mode text ≡ Some item → IsItem mode text item
 item-only InHeaders text item found = header-only text item found

@@ -79,10 +79,10 @@ fits-mode : (mode : Mode) (text : List ℕ) (item : Item) → IsItem mode text i
 fits-mode InHeaders text (HeaderOf key value) is = tt
 fits-mode InHeaders text BodyBegins is = tt
 fits-mode InHeaders text NodeEnds is = tt
-fits-mode InHeaders text (Plain own) is = absurd is
-fits-mode InHeaders text (JumpTo name) is = absurd is
-fits-mode InBody text (HeaderOf key value) is = absurd is
-fits-mode InBody text BodyBegins is = absurd is
+fits-mode InHeaders text (Plain own) is = absurd is.1
+fits-mode InHeaders text (JumpTo name) is = absurd is.1
+fits-mode InBody text (HeaderOf key value) is = absurd is.1
+fits-mode InBody text BodyBegins is = absurd is.1
 fits-mode InBody text NodeEnds is = tt
 fits-mode InBody text (Plain own) is = tt
 fits-mode InBody text (JumpTo name) is = tt
