@@ -354,7 +354,7 @@ name-only text (b ∷ bytes) item split found = by_test (is_blank b) (is_name_te
         let same : JumpTo name ≡ item = cc in
         let parts : text ≡ codes "<<jump" ++ (b ∷ (leading bytes ++ (name ++ codes ">>"))) =
         split ∙ ap (λ l. codes "<<jump" ++ (b ∷ (l ++ codes ">>"))) (leading-split bytes)
-              ∙ ap (λ l. codes "<<jump" ++ (b ∷ l)) (append_assoc (leading bytes) name (codes ">>")) in
+        ∙ ap (λ l. codes "<<jump" ++ (b ∷ l)) (append_assoc (leading bytes) name (codes ">>")) in
         let blanks = and_from (is_blank b) (list_all is_blank (leading bytes)) a (leading-blank bytes) in
         let whole : IsJump text name = record { blanks = leading bytes; blank = b; split = parts; between = blanks; named = n } in
         let clean : list_any is_cr text ≡ false = ap (list_any is_cr) parts
