@@ -11,5 +11,5 @@ play_of-pair pairs more (x ∷ []) name word lt first second is = absurd (omega 
 play_of-pair pairs more (x ∷ y ∷ words) name word lt first second is =
     let rest : take (length (x ∷ y ∷ words) - 2) (drop 2 (x ∷ y ∷ words)) ≡ words = take_rest (x ∷ y ∷ words) 2 in
     let taken : play_of pairs (x ∷ y ∷ words) ≡ play_of more words
-          = rw (← first, ← second) (ap (λ o. given o (λ m. play_of m words)) (sym is)) in
+    = rw (← first, ← second) (ap (λ o. given o (λ m. play_of m words)) (sym is)) in
     rw rest (taken, omega arith)

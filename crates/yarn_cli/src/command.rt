@@ -54,7 +54,7 @@ fn next_pair<'w>(pairs: Pairs<'w>, words: &'w [Text]) -> Option<(Pairs<'w>, &'w 
     requires { 1 < length words.now }
     ensures { MatchOption result (play_of (pairs_seen pairs.entry) words.now ≡ None)
         (λ next. (play_of (pairs_seen pairs.entry) words.now ≡ play_of (pairs_seen next.0) next.1.now)
-            × (length next.1.now < length words.now)) }
+        × (length next.1.now < length words.now)) }
 {
     let [name, word, rest @ ..] = words else {
         return None;

@@ -9,3 +9,6 @@ mod words;
 
 pub use run::run_yarn;
 pub use status::Status;
+
+#[cfg(test)]
+mod tests;

@@ -19,7 +19,11 @@ pub(crate) struct Ended {
 
 impl Ended {
     /// The status with its line, or want of memory where there was none for the line.
-    pub(crate) fn with_line(alloc: Global, status: Status, line: Result<String, AllocError>) -> Ended
+    pub(crate) fn with_line(
+        alloc: Global,
+        status: Status,
+        line: Result<String, AllocError>,
+    ) -> Ended
         ensures { Tells status line result }
     {
         match line {

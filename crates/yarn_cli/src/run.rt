@@ -102,7 +102,11 @@ fn read_failed(alloc: Global, file: &str) -> Ended
     ensures cases { (result.status ≡ Status.ReadFault) ⊎ (result.status ≡ Status.OutOfMemory) }
     ensures line { result.status ≡ Status.ReadFault → string_bytes result.line ≡ cannot_read file.now }
 {
-    Ended::with_line(alloc, Status::ReadFault, format!(in alloc; "cannot read {file}\n"))
+    Ended::with_line(
+        alloc,
+        Status::ReadFault,
+        format!(in alloc; "cannot read {file}\n"),
+    )
 }
 
 // Plays the nodes of the command's file.
@@ -159,7 +163,11 @@ fn refused_at(alloc: Global, file: &str, refusal: Refusal) -> Ended
         string_bytes result.line ≡ refused file.now refusal.kind refusal.place.line }
 {
     let (line, kind) = (refusal.place.line, kind_name(refusal.kind));
-    Ended::with_line(alloc, Status::RefusedProject, format!(in alloc; "{file}:{line}: {kind}\n"))
+    Ended::with_line(
+        alloc,
+        Status::RefusedProject,
+        format!(in alloc; "{file}:{line}: {kind}\n"),
+    )
 }
 
 fn ended_at(alloc: Global, file: &str, end: PlayEnd) -> Ended
@@ -170,7 +178,11 @@ fn ended_at(alloc: Global, file: &str, end: PlayEnd) -> Ended
     match end {
         PlayEnd::Ended => Ended::with_line(alloc, Status::Done, Ok(String::new(alloc))),
         PlayEnd::Limit => {
-            Ended::with_line(alloc, Status::EventLimit, String::from_str(alloc, "event limit\n"))
+            Ended::with_line(
+                alloc,
+                Status::EventLimit,
+                String::from_str(alloc, "event limit\n"),
+            )
         }
         PlayEnd::Faults(fault) => {
             Ended::with_line(alloc, Status::RunFault, fault_line(alloc, file, fault))
@@ -189,12 +201,20 @@ fn unknown_start(alloc: Global, start: &str) -> Ended
     ensures cases { (result.status ≡ Status.UnknownStart) ⊎ (result.status ≡ Status.OutOfMemory) }
     ensures line { result.status ≡ Status.UnknownStart → string_bytes result.line ≡ no_node start.now }
 {
-    Ended::with_line(alloc, Status::UnknownStart, format!(in alloc; "no node {start}\n"))
+    Ended::with_line(
+        alloc,
+        Status::UnknownStart,
+        format!(in alloc; "no node {start}\n"),
+    )
 }
 
 fn write_failed(alloc: Global) -> Ended
     ensures cases { (result.status ≡ Status.WriteFault) ⊎ (result.status ≡ Status.OutOfMemory) }
     ensures line { result.status ≡ Status.WriteFault → string_bytes result.line ≡ cannot_write }
 {
-    Ended::with_line(alloc, Status::WriteFault, String::from_str(alloc, "cannot write output\n"))
+    Ended::with_line(
+        alloc,
+        Status::WriteFault,
+        String::from_str(alloc, "cannot write output\n"),
+    )
 }

@@ -59,5 +59,7 @@ fn is_number_str(word: &str) -> bool
 fn has_only_digits(word: &str) -> bool
     ensures { result ≡ list_all is_digit word.now }
 {
-    word.as_bytes().iter().all(|byte| b'/' < *byte && *byte < b':')
+    word.as_bytes()
+        .iter()
+        .all(|byte| b'/' < *byte && *byte < b':')
 }

@@ -3,9 +3,11 @@ use yarn_base::Text;
 /// Where a run stands.
 #[derive(Clone, Copy, Debug)]
 pub enum PlayEnd<'p> {
+    /// The last event was the end.
     Ended,
-    /// The limit of events is reached.
+    /// The limit of events is reached, and the last one wasn't the end.
     Limit,
+    /// Behind a jump that leads nowhere.
     Faults(FaultAt<'p>),
 }
 
@@ -14,8 +16,9 @@ pub enum PlayEnd<'p> {
 pub struct FaultAt<'p> {
     /// The title of the node that was left.
     pub node: &'p Text,
-    /// The line of the jump.
+    /// The line of the jump, from 1.
     pub line: u32,
+    /// The title that no node has.
     pub name: &'p Text,
 }
 

@@ -16,7 +16,10 @@ use yarn_base::{IoFault, Sink, Text};
 use yarn_tree::Node;
 
 /// Plays from the node of the title `start` on, and writes the transcript of the first `limit` events
-/// (docs/language.md, The meaning; docs/formats.md, Transcript).
+/// (docs/language.md, The meaning; docs/formats.md, Transcript). The answer says where the run stands then.
+///
+/// `UnknownStart` comes before anything is written, and only where no node has that title. After another
+/// fault the front of the transcript is written.
 pub fn play<'p, O: Sink>(
     alloc: Global,
     nodes: &'p [Node],
@@ -28,7 +31,8 @@ pub fn play<'p, O: Sink>(
     ensures stand { IfOk result (λ end. stand_of end ≡ (first_of nodes.now start.now limit).stand) }
     ensures written { OnOk result (O.written out.new
         ≡ append_known (O.written out.old) (transcript (first_of nodes.now start.now limit).events)) }
-    ensures part { WritesPart (O.written out.old) (O.written out.new) (transcript (first_of nodes.now start.now limit).events) }
+    ensures part { WritesPart (O.written out.old) (O.written out.new)
+        (transcript (first_of nodes.now start.now limit).events) }
     ensures unknown { IsErrOf result PlayFault.UnknownStart → find start.now nodes.now ≡ None }
     ensures known { OnOk result (find start.now nodes.now ≡ None → ⊥) }
     ensures failed_known { IsErrOf result PlayFault.Failed → find start.now nodes.now ≡ None → ⊥ }
@@ -60,7 +64,8 @@ fn show<'p, O: Sink>(
     ensures stand { IfOk result (λ end. stand_of end ≡ stand_from walk.entry.titles walk.entry.place limit) }
     ensures written { OnOk result (O.written out.new
         ≡ append_known (O.written out.old) (text_from walk.entry.titles walk.entry.place limit)) }
-    ensures part { WritesPart (O.written out.old) (O.written out.new) (text_from walk.entry.titles walk.entry.place limit) }
+    ensures part { WritesPart (O.written out.old) (O.written out.new)
+        (text_from walk.entry.titles walk.entry.place limit) }
     ensures cause { HasCause (O.faults out.old) (O.faults out.new) result }
 {
     let mut page = Page::new(alloc);

@@ -22,6 +22,15 @@ fn statement(alloc: Global, line: u32, word: &str) -> Result<Stmt, Memory> {
     }
 }
 
+fn titled(alloc: Global, title: &str, body: List<Stmt>) -> Result<Node, Memory> {
+    Ok(Node {
+        title: Text::from_str(alloc, title)?,
+        line: 1,
+        end_line: 1,
+        body,
+    })
+}
+
 // Its first statement stands on line 1.
 fn node(alloc: Global, title: &str, words: &[&str]) -> Result<Node, Memory> {
     let mut body = List::new(alloc);
@@ -31,12 +40,7 @@ fn node(alloc: Global, title: &str, words: &[&str]) -> Result<Node, Memory> {
             .map_err(|_| Memory)?;
         line = line.saturating_add(1);
     }
-    Ok(Node {
-        title: Text::from_str(alloc, title)?,
-        line: 0,
-        end_line: line,
-        body,
-    })
+    titled(alloc, title, body)
 }
 
 fn nodes_of(alloc: Global, scripts: &[Script]) -> Result<Vec<Node>, Memory> {
@@ -112,23 +116,30 @@ fn each_run_writes_its_transcript(rt: HostRuntime) -> Result<(), Fail> {
     Ok(())
 }
 
-// A node of 200 lines of 1,000 bytes.
-fn long_node(alloc: Global) -> Result<Vec<Node>, Memory> {
-    let mut line = String::new(alloc);
+// A text of 1,000 bytes.
+fn long_text(alloc: Global) -> Result<String, Memory> {
+    let mut text = String::new(alloc);
     for _ in 0..1000u32 {
-        line.push('x')?;
+        text.push('x')?;
     }
-    let mut words = Vec::new(alloc);
+    Ok(text)
+}
+
+// A node of 200 lines of 1,000 bytes.
+fn long_node(alloc: Global) -> Result<Node, Memory> {
+    let text = long_text(alloc)?;
+    let mut body = List::new(alloc);
     for _ in 0..200u32 {
-        words.push(line.as_str())?;
+        body.push(statement(alloc, 1, text.as_str())?)
+            .map_err(|_| Memory)?;
     }
-    nodes_of(alloc, &[("Long", words.as_slice())])
+    titled(alloc, "Long", body)
 }
 
 #[test]
 fn lines_are_handed_over_by_the_page(rt: HostRuntime) -> Result<(), Fail> {
     let alloc = rt.alloc();
-    let nodes = long_node(alloc)?;
+    let nodes = [long_node(alloc)?];
     let start = Text::from_str(alloc, "Long")?;
     // the bytes that are written where that write fails: 66 lines fill a page
     let rows = [
@@ -140,7 +151,7 @@ fn lines_are_handed_over_by_the_page(rt: HostRuntime) -> Result<(), Fail> {
     for (failing, want, bytes) in rows {
         let mut out = MemorySink::new(alloc);
         out.fail(failing)?;
-        let end = play(alloc, nodes.as_slice(), &start, 1000, &mut out);
+        let end = play(alloc, &nodes, &start, 1000, &mut out);
         assert_eq!(rt;
             end_of(alloc, &end)?.as_str(),
             want,

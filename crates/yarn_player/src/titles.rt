@@ -8,7 +8,7 @@ use std::marker::Model;
 use yarn_base::{Memory, Text};
 use yarn_tree::Node;
 
-/// The nodes of a project, found by their titles.
+/// The nodes of a project, found by their titles. Contracts see it as the list of the nodes.
 #[derive(Drop)]
 pub struct Titles<'p> {
     nodes: &'p [Node],

@@ -10,3 +10,4 @@ pub mod NamesLemmas
 pub mod NotBuiltLemmas
 pub mod PlaceLemmas
 pub mod ProjectLemmas
+pub mod ReaderLemmas

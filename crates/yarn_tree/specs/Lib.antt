@@ -7,6 +7,7 @@ pub mod Names
 pub mod Nodes
 pub mod NotBuilt
 pub mod Project
+pub mod Reader
 pub mod Reading
 pub mod Scan
 pub mod Structure

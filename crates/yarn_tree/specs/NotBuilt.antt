@@ -1,5 +1,5 @@
 -- The first line of a file with a form that isn't read yet.
-use Rattle.std.specs.Prelude.{ℕ, ◌+◌, List, [], ◌∷◌, length, nat_lt, Bool, true, false, ◌||◌, ◌&&◌, if◌then◌else◌, Option, Some, None, is_none, codes}
+use Rattle.std.specs.Prelude.{◌≡◌, ℕ, ◌+◌, List, [], ◌∷◌, length, nat_lt, Bool, true, false, ◌||◌, ◌&&◌, if◌then◌else◌, Option, Some, None, is_none, codes}
 use Rattle.std.specs.List.{list_any}
 use Rattle.std.specs.Str.{bytes_eq}
 use Rattle.yarn_lines.specs.Lines.{pieces_of, text_of, counts, is_long, begins_with}
@@ -82,3 +82,12 @@ first_odd seen number (piece ∷ pieces) =
 -- line 0 is the file as a whole
 abbrev pub not_built : List ℕ → Option ℕ
 not_built bytes = if nat_lt 4194304 (length bytes) then Some 0 else first_odd nothing_seen 1 (pieces_of bytes)
+
+-- a line that could be passed was passed, and one that could not has a form that isn't read yet
+abbrev pub IsPast : Seen → Seen → List ℕ → Bool → Type 0
+IsPast old new text true = ((counts text && is_odd old text) ≡ false) × (new ≡ seen_past old text)
+IsPast old new text false = (counts text && is_odd old text) ≡ true
+
+abbrev pub IsItemPast : Seen → Seen → List ℕ → Bool → Type 0
+IsItemPast old new text true = (is_odd old text ≡ false) × (new ≡ seen_after old (item_of old.mode text))
+IsItemPast old new text false = is_odd old text ≡ true

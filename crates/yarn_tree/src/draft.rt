@@ -1,10 +1,9 @@
 //! A node while its lines are read.
-ghost use Rattle.std.specs.Prelude.{◌≡◌, IfOk, OnOk};
-ghost use Rattle.yarn_tree.specs.Nodes.{no_draft, title_of, line_id, header_taken, body_begun, with_stmt, line_taken, jump_taken, draft_after, node_ended, node_of, nodes_from};
-ghost use Rattle.yarn_tree.specs.View.{found_in};
+ghost use Rattle.std.specs.Prelude.{◌≡◌, IfOk, OnOk, Some};
+ghost use Rattle.yarn_tree.specs.Nodes.{no_draft, title_of, line_id, header_taken, body_begun, with_stmt, line_taken, jump_taken, draft_after, node_ended, node_of};
+ghost use Rattle.yarn_tree.specs.View.{item_found};
 
 use crate::item::{Found, Mode};
-use crate::structure::item_at;
 use crate::{Head, LineText, Node, Stmt};
 use std::alloc::Global;
 use std::mem;
@@ -15,30 +14,15 @@ use yarn_lines::RawLine;
 /// What of a node has been read.
 #[derive(Debug, Drop)]
 pub(crate) struct Draft {
-    mode: Mode,
+    pub mode: Mode,
     title: Option<Text>,
     line: u32,
     body: Items<Stmt>,
     said: u64,
 }
 
-/// The nodes that the lines make.
-pub(crate) fn nodes_in(alloc: Global, lines: &[RawLine]) -> Result<Items<Node>, Memory>
-    ensures { IfOk result (λ nodes. nodes ≡ nodes_from no_draft lines.now) }
-{
-    let mut nodes = Items::new(alloc);
-    let mut draft = Draft::new(alloc);
-    for line in lines {
-        let found = item_at(draft.mode, line);
-        if let Some(node) = draft.take(alloc, line, found)? {
-            nodes.push(node).map_err(|_| Memory)?;
-        }
-    }
-    Ok(nodes)
-}
-
 impl Draft {
-    fn new(alloc: Global) -> Draft
+    pub(crate) fn new(alloc: Global) -> Draft
         ensures { result ≡ no_draft }
     {
         Draft {
@@ -50,18 +34,17 @@ impl Draft {
         }
     }
 
-    // Takes the item of a line, and gives the node that ends there.
-    fn take(&mut self, alloc: Global, line: &RawLine, found: Option<Found>) -> Result<Option<Node>, Memory>
-        ensures ended { IfOk result (λ node. node ≡ node_ended self.old line.now.number (found_in line.now.text found.entry)) }
-        ensures after { OnOk result (self.new ≡ draft_after self.old line.now.number (found_in line.now.text found.entry)) }
+    /// Takes the item of a line, and gives the node that ends there.
+    pub(crate) fn take(&mut self, alloc: Global, line: &RawLine, found: Found) -> Result<Option<Node>, Memory>
+        ensures ended { IfOk result (λ node. node ≡ node_ended self.old line.now.number (Some (item_found line.now.text found.entry))) }
+        ensures after { OnOk result (self.new ≡ draft_after self.old line.now.number (Some (item_found line.now.text found.entry))) }
     {
         match found {
-            Some(Found::Header(key, value)) => self.take_header(alloc, key, value)?,
-            Some(Found::BodyBegins) => self.begin_body(alloc, line.number),
-            Some(Found::NodeEnds) => return Ok(Some(self.end_node(alloc, line.number)?)),
-            Some(Found::Plain) => self.take_line(alloc, line)?,
-            Some(Found::Jump(name)) => self.take_jump(alloc, line.number, name)?,
-            None => {}
+            Found::Header(key, value) => self.take_header(alloc, key, value)?,
+            Found::BodyBegins => self.begin_body(alloc, line.number),
+            Found::NodeEnds => return Ok(Some(self.end_node(alloc, line.number)?)),
+            Found::Plain => self.take_line(alloc, line)?,
+            Found::Jump(name) => self.take_jump(alloc, line.number, name)?,
         }
         Ok(None)
     }
@@ -150,6 +133,5 @@ fn text_from(alloc: Global, value: &[u8]) -> Result<Text, Memory>
 fn line_id_for(alloc: Global, title: &str, before: u64) -> Result<Text, Memory>
     ensures { IfOk result (λ id. id ≡ line_id title.now before) }
 {
-    let id = format!(in alloc; "line:{title}-{before}")?;
-    Text::from_str(alloc, id.as_str())
+    Ok(Text::from_string(format!(in alloc; "line:{title}-{before}")?))
 }

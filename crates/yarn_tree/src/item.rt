@@ -124,9 +124,13 @@ fn has_special(text: &[u8]) -> bool
     text.iter().any(|byte| is_special_byte(*byte))
 }
 
+// Lower case letters and blanks are told first, since they are most of a text.
 fn is_special_byte(byte: u8) -> bool
     ensures { result ≡ is_special byte }
 {
+    if (b'a'..=b'z').contains(&byte) || byte == b' ' {
+        return false;
+    }
     b"\r\\{}[]#/<>".contains(&byte)
 }
 

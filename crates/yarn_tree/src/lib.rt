@@ -8,6 +8,7 @@ pub mod laws;
 mod names;
 mod not_built;
 mod read;
+mod reader;
 mod refusal;
 mod structure;
 mod tree;

@@ -1,10 +1,11 @@
 //! The first line of a file with a form that isn't read yet.
-ghost use Rattle.std.specs.Prelude.{◌≡◌, ◌&&◌, true, false, OnOk, IfOk};
+ghost use Rattle.std.specs.Prelude.{◌≡◌, true, false, List, ℕ, Some, None, OnOk, IfOk};
 ghost use Rattle.std.specs.List.{list_any};
 ghost use Rattle.yarn_lines.specs.Lines.{counts};
+ghost use Rattle.yarn_tree.specs.Form.{item_of};
 ghost use Rattle.yarn_tree.specs.Item.{is_name_text};
-ghost use Rattle.yarn_tree.specs.NotBuilt.{and_one, is_odd, is_odd_byte, is_odd_header, is_odd_line, is_odd_piece, is_new_title, nothing_seen, header_passed, seen_past, not_built};
-ghost use Rattle.yarn_tree.specs.View.{found_in};
+ghost use Rattle.yarn_tree.specs.NotBuilt.{and_one, is_odd, is_odd_byte, is_odd_header, is_odd_piece, is_new_title, nothing_seen, header_passed, seen_after, IsPast, IsItemPast, not_built};
+ghost use Rattle.yarn_tree.specs.View.{item_found};
 
 use crate::item::{Found, Mode, item_in, name_in};
 use crate::names::Names;
@@ -52,10 +53,9 @@ pub(crate) fn not_built_in(alloc: Global, bytes: &[u8]) -> Result<Option<u32>, M
     let mut number = 1;
     while !rest.is_empty() {
         let (piece, after) = first_piece(rest);
-        if scan.is_odd_line(piece) {
+        if is_odd_bytes(piece) || !scan.take(text_in(piece))? {
             return Ok(Some(number));
         }
-        scan.pass(text_in(piece))?;
         rest = after;
         number += 1;
     }
@@ -71,7 +71,11 @@ fn is_odd_bytes(piece: &[u8]) -> bool
 fn has_odd_byte(piece: &[u8]) -> bool
     ensures { result ≡ list_any is_odd_byte piece.now }
 {
-    piece.iter().any(|byte| *byte < 32 || 126 < *byte)
+    let mut found = false;
+    for byte in piece {
+        found |= (*byte < 32) | (126 < *byte);
+    }
+    found
 }
 
 /// A line counts where its text is neither empty nor a comment.
@@ -105,31 +109,59 @@ impl<'a> Scan<'a> {
         }
     }
 
-    fn is_odd_line(&self, piece: &[u8]) -> bool
-        ensures { result ≡ is_odd_line (seen_by self.now) piece.now }
+    // Goes past a line, and says whether it could: whether its form is read.
+    fn take(&mut self, text: &'a [u8]) -> Result<bool, Memory>
+        ensures { IfOk result (λ passed. IsPast (seen_by self.old) (seen_by self.new) text.now passed) }
     {
-        let text = text_in(piece);
-        is_odd_bytes(piece) || (is_counted(text) && self.is_odd(text))
-    }
-
-    fn is_odd(&self, text: &[u8]) -> bool
-        ensures { result ≡ is_odd (seen_by self.now) text.now }
-    {
-        let found = item_in(self.mode, text);
-        match self.mode {
-            Mode::InHeaders => self.is_odd_header(text, found),
-            Mode::InBody => found.is_none(),
+        if !is_counted(text) {
+            return Ok(true);
+        }
+        match item_in(self.mode, text) {
+            Some(found) => self.take_item(text, found),
+            None => Ok(!self.is_odd_rest(text)),
         }
     }
 
-    fn is_odd_header(&self, text: &[u8], found: Option<Found>) -> bool
-        ensures { result ≡ is_odd_header (seen_by self.now) text.now (found_in text.now found.entry) }
+    fn take_item(&mut self, text: &[u8], found: Found<'a>) -> Result<bool, Memory>
+        requires { item_of self.old.mode text.now ≡ Some (item_found text.now found) }
+        ensures { IfOk result (λ passed. IsItemPast (seen_by self.old) (seen_by self.new) text.now passed) }
+    {
+        if self.is_odd_item(text, found) {
+            return Ok(false);
+        }
+        self.pass(text, found)?;
+        Ok(true)
+    }
+
+    // A line that has no item: the others are refused by their own name.
+    fn is_odd_rest(&self, text: &[u8]) -> bool
+        requires { item_of self.now.mode text.now ≡ None }
+        ensures { result ≡ is_odd (seen_by self.now) text.now }
+    {
+        match self.mode {
+            Mode::InHeaders => text.starts_with(b"#"),
+            Mode::InBody => true,
+        }
+    }
+
+    fn is_odd_item(&self, text: &[u8], found: Found) -> bool
+        requires { item_of self.now.mode text.now ≡ Some (item_found text.now found) }
+        ensures { result ≡ is_odd (seen_by self.now) text.now }
+    {
+        let _ = text;
+        match self.mode {
+            Mode::InHeaders => self.is_odd_header(found),
+            Mode::InBody => false,
+        }
+    }
+
+    fn is_odd_header(&self, found: Found) -> bool
+        ensures { (text : List ℕ) → result ≡ is_odd_header (seen_by self.now) text (Some (item_found text found.entry)) }
     {
         match found {
-            Some(Found::BodyBegins) => self.headers != Few::One || self.bodies >= NODE_LIMIT,
-            Some(Found::Header(key, value)) => !self.is_new_title(key, value),
-            Some(Found::NodeEnds | Found::Plain | Found::Jump(_)) => false,
-            None => text.starts_with(b"#"),
+            Found::BodyBegins => self.headers != Few::One || self.bodies >= NODE_LIMIT,
+            Found::Header(key, value) => !self.is_new_title(key, value),
+            Found::NodeEnds | Found::Plain | Found::Jump(_) => false,
         }
     }
 
@@ -142,25 +174,23 @@ impl<'a> Scan<'a> {
         }
     }
 
-    // Goes past a line.
-    fn pass(&mut self, text: &'a [u8]) -> Result<(), Memory>
-        requires { (counts text.now && is_odd (seen_by self.old) text.now) ≡ false }
-        ensures { OnOk result (seen_by self.new ≡ seen_past (seen_by self.old) text.now) }
+    fn pass(&mut self, text: &[u8], found: Found<'a>) -> Result<(), Memory>
+        requires item { item_of self.old.mode text.now ≡ Some (item_found text.now found) }
+        requires fine { is_odd (seen_by self.old) text.now ≡ false }
+        ensures { OnOk result (seen_by self.new ≡ seen_after (seen_by self.old) (item_of self.old.mode text.now)) }
     {
-        if !is_counted(text) {
-            return Ok(());
-        }
-        match item_in(self.mode, text) {
-            Some(Found::BodyBegins) => {
+        let _ = text;
+        match found {
+            Found::BodyBegins => {
                 self.mode = Mode::InBody;
                 self.bodies += 1;
             }
-            Some(Found::NodeEnds) => {
+            Found::NodeEnds => {
                 self.mode = Mode::InHeaders;
                 self.headers = Few::Zero;
             }
-            Some(Found::Header(_, value)) => self.pass_header(value)?,
-            Some(Found::Plain | Found::Jump(_)) | None => {}
+            Found::Header(_, value) => self.pass_header(value)?,
+            Found::Plain | Found::Jump(_) => {}
         }
         Ok(())
     }

@@ -3,10 +3,9 @@ ghost use Rattle.std.specs.Prelude.{◌≡◌, ◌≤◌, length, None, MatchRes
 ghost use Rattle.yarn_tree.specs.NotBuilt.{not_built};
 ghost use Rattle.yarn_tree.specs.Reading.{Reading, Reads, Refuses, Answers, IsFault, reading_of, lines_read, nodes_read};
 
-use crate::draft::nodes_in;
 use crate::jumps::unknown_in;
 use crate::not_built::not_built_in;
-use crate::structure::{bad_line_in, misplaced_in};
+use crate::reader::Reader;
 use crate::{File, Node, ProjectFault, Refusal, RefusalKind};
 use std::alloc::Global;
 use yarn_base::{List, Place, SourceFile};
@@ -54,20 +53,16 @@ fn read_lines(alloc: Global, bytes: &List<u8>) -> Result<Lines, ProjectFault>
 fn read_nodes(alloc: Global, lines: &Lines) -> Result<List<Node>, ProjectFault>
     ensures { MatchResult result (λ nodes. lines_read lines.now ≡ Reads nodes) (λ fault. IsFault (lines_read lines.now) fault) }
 {
-    let all = lines.lines.as_slice();
-    if let Some(line) = bad_line_in(all) {
-        return Err(refused(RefusalKind::BadLine, line));
+    let mut reader = Reader::new(alloc);
+    for line in lines.lines.as_slice() {
+        if let Err(fault) = reader.take(alloc, line) {
+            return Err(fault);
+        }
     }
-    if let Some(line) = misplaced_in(all, lines.end) {
-        return Err(refused(RefusalKind::BadStructure, line));
-    }
-    match nodes_in(alloc, all) {
-        Ok(nodes) => test_jumps(alloc, nodes),
-        Err(_) => Err(ProjectFault::Memory),
-    }
+    reader.finish(alloc, lines.end)
 }
 
-fn test_jumps(alloc: Global, nodes: List<Node>) -> Result<List<Node>, ProjectFault>
+pub(crate) fn test_jumps(alloc: Global, nodes: List<Node>) -> Result<List<Node>, ProjectFault>
     ensures { MatchResult result (λ same. nodes_read nodes ≡ Reads same) (λ fault. IsFault (nodes_read nodes) fault) }
 {
     match unknown_in(alloc, nodes.as_slice()) {
@@ -77,7 +72,7 @@ fn test_jumps(alloc: Global, nodes: List<Node>) -> Result<List<Node>, ProjectFau
     }
 }
 
-fn refused(kind: RefusalKind, line: u32) -> ProjectFault
+pub(crate) fn refused(kind: RefusalKind, line: u32) -> ProjectFault
     ensures { (reading : Reading) → reading ≡ Refuses kind line → IsFault reading result }
 {
     ProjectFault::Refused(Refusal {

@@ -11,10 +11,12 @@ run_play-requires g c =
 pub returns-in-Some-clause-read : goal.returns-in-Some-clause-read
 returns-in-Some-clause-read g c is =
     let said = said_plain _ _ _ _ _ _ c.say.ensures.said is in
-    let read = c.run_play.ensures.read said.0 in
-    (read.0, record {
-      play = play_found c.in-Some.command;
-      is = sym (rw c.as_slice.ensures at c.in-Some.ensures);
-      is_latest = read.1;
-      said = said.1 ∙ ap (append_known _) read.2;
-    })
+    let read = c.run_play.ensures.read said.0 in (
+      read.0,
+      record {
+        play = play_found c.in-Some.command;
+        is = sym (rw c.as_slice.ensures at c.in-Some.ensures);
+        is_latest = read.1;
+        said = said.1 ∙ ap (append_known _) read.2;
+      },
+    )
