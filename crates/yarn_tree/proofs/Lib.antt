@@ -1,6 +1,14 @@
+pub mod BodyLemmas
+pub mod FormLemmas
+pub mod FoundLemmas
 pub mod ItemLemmas
 pub mod JumpsLemmas
+pub mod KnownLemmas
+pub mod LawLemmas
+pub mod LinesLemmas
 pub mod NamesLemmas
 pub mod NotBuiltLemmas
+pub mod PlaceLemmas
+pub mod ProjectLemmas
 pub mod ReaderLemmas
 pub mod TableLemmas

@@ -6,7 +6,7 @@ use Rattle.std.specs.Cmp.Lexicographic.{pointwise}
 use Rattle.yarn_lines.specs.Lines.{is_blank, past_leading, without_trailing, begins_with}
 use Rattle.yarn_tree.specs.declared.item.Mode.{Mode}
 use Rattle.yarn_tree.specs.declared.item.Mode.TheVariants.{InHeaders, InBody}
-use Rattle.yarn_tree.specs.Item.{Item, HeaderOf, BodyBegins, NodeEnds, Plain, JumpTo, is_name_text, is_special, trimmed}
+use Rattle.yarn_tree.specs.Item.{Item, HeaderOf, BodyBegins, NodeEnds, Plain, JumpTo, is_name_text, is_cr, is_special, trimmed}
 
 -- how many bytes stand before the first `:`
 abbrev pub length_to_colon : List ℕ → ℕ
@@ -17,7 +17,7 @@ length_to_colon (b ∷ bytes) = if nat_eq b 58 then 0 else length_to_colon bytes
 abbrev pub header_of : List ℕ → Option Item
 header_of text =
     if nat_lt (length_to_colon text) (length text) && is_name_text (without_trailing (take (length_to_colon text) text))
-    then Some (HeaderOf (without_trailing (take (length_to_colon text) text)) (trimmed (drop (length_to_colon text + 1) text)))
+    then if list_any is_cr (drop (length_to_colon text + 1) text) then None else Some (HeaderOf (without_trailing (take (length_to_colon text) text)) (trimmed (drop (length_to_colon text + 1) text)))
     else None
 
 abbrev pub ends_with : List ℕ → List ℕ → Bool

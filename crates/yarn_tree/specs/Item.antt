@@ -32,6 +32,10 @@ IsNameIn bytes (Some name) = (is_name_text bytes ≡ true) × (name.now ≡ byte
 abbrev pub trimmed : List ℕ → List ℕ
 trimmed bytes = past_leading (without_trailing bytes)
 
+-- a carriage return
+abbrev pub is_cr : ℕ → Bool
+is_cr b = nat_eq b 13
+
 -- a name, blanks, `:` and a value between blanks
 pub record IsHeader (text key value : List ℕ) : Type 0 where
   pub blanks : List ℕ
@@ -41,9 +45,9 @@ pub record IsHeader (text key value : List ℕ) : Type 0 where
   pub between : list_all is_blank blanks ≡ true
   pub valued : value ≡ trimmed rest
 
--- the characters that no plain line of this form has
+-- the characters that no plain line of this form has; and no line has a carriage return
 abbrev pub is_special : ℕ → Bool
-is_special b = list_any (λ c. nat_eq c b) (codes "\\{}[]#/<>")
+is_special b = list_any (λ c. nat_eq c b) (13 ∷ codes "\\{}[]#/<>")
 
 abbrev pub IsPlain : List ℕ → Type 0
 IsPlain text = list_any is_special text ≡ false
@@ -56,11 +60,15 @@ pub record IsJump (text name : List ℕ) : Type 0 where
   pub between : list_all is_blank (blank ∷ blanks) ≡ true
   pub named : is_name_text name ≡ true
 
--- the text of a line is that item
+-- a text without a carriage return is that item
+abbrev pub IsForm : Mode → List ℕ → Item → Type 0
+IsForm mode text NodeEnds = text ≡ codes "==="
+IsForm InHeaders text BodyBegins = text ≡ codes "---"
+IsForm InHeaders text (HeaderOf key value) = IsHeader text key value
+IsForm InBody text (Plain own) = (own ≡ text) × IsPlain text × (text ≡ codes "===" → ⊥)
+IsForm InBody text (JumpTo name) = IsJump text name
+IsForm _ _ _ = ⊥
+
+-- the text of a line is that item; a text with a carriage return is none
 abbrev pub IsItem : Mode → List ℕ → Item → Type 0
-IsItem mode text NodeEnds = text ≡ codes "==="
-IsItem InHeaders text BodyBegins = text ≡ codes "---"
-IsItem InHeaders text (HeaderOf key value) = IsHeader text key value
-IsItem InBody text (Plain own) = (own ≡ text) × IsPlain text × (text ≡ codes "===" → ⊥)
-IsItem InBody text (JumpTo name) = IsJump text name
-IsItem _ _ _ = ⊥
+IsItem mode text item = (list_any is_cr text ≡ false) × IsForm mode text item

@@ -1,9 +1,12 @@
+pub mod Body
 pub mod Form
 pub mod Item
 pub mod Jumps
+pub mod Laws
 pub mod Names
 pub mod Nodes
 pub mod NotBuilt
+pub mod Project
 pub mod Reader
 pub mod Reading
 pub mod Scan

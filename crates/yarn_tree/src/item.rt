@@ -2,7 +2,7 @@
 ghost use Rattle.std.specs.Prelude.{◌≡◌, ◌≤◌, length};
 ghost use Rattle.std.specs.List.{list_any};
 ghost use Rattle.std.specs.Option.{option_copied};
-ghost use Rattle.yarn_tree.specs.Item.{IsNameIn, is_special};
+ghost use Rattle.yarn_tree.specs.Item.{IsNameIn, is_cr, is_special};
 ghost use Rattle.yarn_tree.specs.Form.{length_to_colon, header_of, behind, before, given, name_behind, jump_of, header_item, body_item, item_of};
 ghost use Rattle.yarn_tree.specs.View.{found_in};
 
@@ -20,7 +20,7 @@ pub(crate) enum Mode {
 // Which bytes no plain line of this form has.
 const IS_SPECIAL: [bool; 256] = [
     false, false, false, false, false, false, false, false, false, false, false, false, false,
-    false, false, false, false, false, false, false, false, false, false, false, false, false,
+    true, false, false, false, false, false, false, false, false, false, false, false, false,
     false, false, false, false, false, false, false, false, false, true, false, false, false,
     false, false, false, false, false, false, false, false, true, false, false, false, false,
     false, false, false, false, false, false, false, false, true, false, true, false, false, false,
@@ -97,10 +97,19 @@ fn header_in(text: &[u8]) -> Option<Found>
     if colon < text.len() {
         let key = without_blanks_behind(&text[..colon]);
         if name_in(key).is_some() {
-            return Some(Found::Header(key, without_blanks(&text[colon + 1..])));
+            let value = &text[colon + 1..];
+            if !has_cr(value) {
+                return Some(Found::Header(key, without_blanks(value)));
+            }
         }
     }
     None
+}
+
+fn has_cr(bytes: &[u8]) -> bool
+    ensures { result ≡ list_any is_cr bytes.now }
+{
+    bytes.iter().any(|byte| *byte == b'\r')
 }
 
 // The place of the first `:`, and of the end where there is none.

@@ -4,6 +4,7 @@
 mod draft;
 mod item;
 mod jumps;
+pub mod laws;
 mod names;
 mod not_built;
 mod read;

@@ -1,5 +1,6 @@
 //! Reads a file: one refusal after the other, and the nodes where none has a place.
-ghost use Rattle.std.specs.Prelude.{◌≡◌, ◌≤◌, length, None, MatchResult};
+ghost use Rattle.std.specs.Prelude.{◌≡◌, ◌≤◌, length, None, IfOk, MatchResult};
+ghost use Rattle.yarn_tree.specs.Project.{StandsFor};
 ghost use Rattle.yarn_tree.specs.NotBuilt.{not_built};
 ghost use Rattle.yarn_tree.specs.Reading.{Reading, Reads, Refuses, Answers, IsFault, reading_of, lines_read, nodes_read};
 
@@ -14,7 +15,8 @@ use yarn_lines::{LineFault, Lines, split};
 /// The tree of a file that is the whole project, or its first fault (docs/language.md, Refusals of a project).
 pub fn read_file(alloc: Global, file: &SourceFile) -> Result<File, ProjectFault>
     requires { length file.now.bytes ≤ 1073741824 }
-    ensures { Answers file.now result }
+    ensures answers { Answers file.now result }
+    ensures stands { IfOk result (λ read. StandsFor file.now.bytes read.nodes) }
 {
     test_built(alloc, &file.bytes)?;
     let lines = read_lines(alloc, &file.bytes)?;
