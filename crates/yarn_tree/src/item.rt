@@ -136,10 +136,15 @@ pub(crate) fn name_in(bytes: &[u8]) -> Option<&str>
     }
 }
 
+// Goes over the whole text, which is faster than to stop at the first one.
 fn has_special(text: &[u8]) -> bool
     ensures { result ≡ list_any is_special text.now }
 {
-    text.iter().any(|byte| is_special_byte(*byte))
+    let mut found = false;
+    for byte in text {
+        found |= is_special_byte(*byte);
+    }
+    found
 }
 
 fn is_special_byte(byte: u8) -> bool
