@@ -1,0 +1,13 @@
+pub mod Values
+pub mod Numbers
+pub mod Rows
+pub mod Operations
+pub mod Builtins
+pub mod BuiltinTable
+pub mod Quoting
+pub mod QuotingSteps
+pub mod Templates
+pub mod Pieces
+pub mod TemplateSteps
+pub mod TemplateReading
+pub mod TemplateSpelling

@@ -1,0 +1,21 @@
+-- What reading a template answers, and what it holds on the way.
+use Rattle.std.specs.Prelude.{◌≡◌, ◌<◌, ◌+◌, ℕ, List, ◌++◌, map, Option, Some, None, Result, Ok, Err, ⊤, ◌⊎◌}
+use Rattle.yarn_value.specs.Templates.{Mark, Part, Byte, Form, placeholders, size}
+use Rattle.yarn_value.specs.Pieces.{parts_of}
+use Rattle.yarn_value.specs.declared.template.Piece.{Piece}
+use Rattle.yarn_value.specs.declared.reading.TemplateFault.{TemplateFault}
+use Rattle.yarn_value.specs.declared.reading.TemplateFault.TheVariants.{NotTemplate, Memory}
+
+-- the parts that are meant, none, or want of memory, which is free
+abbrev pub Reads : Result Form TemplateFault → Option (List Part) → Type 0
+Reads (Ok template) meant = meant ≡ Some template.parts
+Reads (Err NotTemplate) meant = meant ≡ None
+Reads (Err Memory) meant = ⊤
+
+-- a limit is passed with these marks behind what was counted
+abbrev pub IsTooMuch : ℕ → ℕ → List Mark → Type 0
+IsTooMuch bytes holes marks = (65536 < bytes + size marks) ⊎ (64 < holes + placeholders marks)
+
+-- the parts of the pieces, and a run of characters behind them
+abbrev pub built : List Piece → List ℕ → List Part
+built pieces run = parts_of pieces ++ map Byte run
