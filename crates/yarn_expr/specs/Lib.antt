@@ -1,0 +1,11 @@
+pub mod Word
+pub mod Plain
+pub mod Expression
+pub mod Reading
+pub mod Parts
+pub mod Literal
+pub mod Tokens
+pub mod Piece
+pub mod Gives
+pub mod Steps
+pub mod Print
