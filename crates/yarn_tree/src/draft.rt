@@ -142,7 +142,7 @@ fn text_from(alloc: Global, value: &[u8]) -> Result<Text, Memory>
 fn line_id_for(alloc: Global, title: &str, before: u64) -> Result<Text, Memory>
     ensures { IfOk result (λ id. id ≡ line_id title.now before) }
 {
-    let mut id = String::with_capacity(alloc, title.len().saturating_add(26))?;
+    let mut id = String::with_capacity(alloc, title.len().saturating_add(12))?;
     write!(id, "line:{title}-{before}")?;
     Ok(Text::from_string(id))
 }
