@@ -173,7 +173,9 @@ impl Files for MemoryFiles {
             return Err(IoFault::Memory);
         };
         match find(&self.files, name) {
-            Some(bytes) if !fails => first_bytes(alloc, bytes.as_slice(), max + 1).map_err(|_| IoFault::Memory),
+            Some(bytes) if !fails => first_bytes(alloc, bytes.as_slice(), max + 1).map_err(
+                |_| IoFault::Memory,
+            ),
             _ => {
                 self.read_faults = self.read_faults.saturating_add(1);
                 self.latest_fault = Some(copy);

@@ -23,7 +23,9 @@ fn texts_and_lists(rt: HostRuntime) -> Result<(), Memory> {
     assert!(rt; name.copy()? == name);
     assert!(rt; Text::from_string(String::from_str(alloc, "Straße")?) == name);
     assert!(rt; Text::from_utf8(Vec::from_slice(alloc, b"a\xff")?).is_err());
-    assert!(rt; Text::from_utf8(Vec::from_slice(alloc, b"Stra\xc3\x9fe")?).is_ok_and(|t| t == name));
+    assert!(rt;
+        Text::from_utf8(Vec::from_slice(alloc, b"Stra\xc3\x9fe")?).is_ok_and(|t| t == name)
+    );
 
     let mut items: List<u64> = List::new(alloc);
     assert!(rt; items.is_empty());
@@ -40,7 +42,15 @@ fn texts_and_lists(rt: HostRuntime) -> Result<(), Memory> {
 #[test]
 fn names(rt: HostRuntime) -> Result<(), Memory> {
     let alloc = rt.alloc();
-    for (of, name) in [("Start", true), ("_1.b", true), ("Straße", true), ("1st", false), (".a", false), ("a b", false), ("", false)] {
+    for (of, name) in [
+        ("Start", true),
+        ("_1.b", true),
+        ("Straße", true),
+        ("1st", false),
+        (".a", false),
+        ("a b", false),
+        ("", false),
+    ] {
         assert_eq!(rt; is_name(&text(alloc, of)?), name, "at {of}");
         assert_eq!(rt; is_name_str(of), name, "at {of}");
         let mut variable = text(alloc, "$")?;
@@ -68,7 +78,9 @@ fn inside(alloc: Global, tree: Tree) -> Result<Tree, Memory> {
 
 fn row(alloc: Global, last: u64) -> Result<Tree, Memory> {
     let mut trees = List::new(alloc);
-    trees.push(inside(alloc, Tree::Leaf(1))?).map_err(|_| Memory)?;
+    trees
+        .push(inside(alloc, Tree::Leaf(1))?)
+        .map_err(|_| Memory)?;
     trees.push(Tree::Leaf(last)).map_err(|_| Memory)?;
     inside(alloc, Tree::Row(trees))
 }
@@ -137,15 +149,32 @@ fn failing_calls_of_files(rt: HostRuntime) -> Result<(), Memory> {
     files.fail_read(2)?;
     files.fail_write(2)?;
     assert!(rt; files.put(a.copy()?, bytes(alloc, b"one")?).is_ok());
-    for (name, answer) in [(&a, Ok(3)), (&a, Err(IoFault::Failed)), (&b, Err(IoFault::Failed)), (&a, Ok(3))] {
+    for (name, answer) in [
+        (&a, Ok(3)),
+        (&a, Err(IoFault::Failed)),
+        (&b, Err(IoFault::Failed)),
+        (&a, Ok(3)),
+    ] {
         let got = files.read(alloc, name, 5).map(|bytes| bytes.len());
         assert!(rt; got == answer);
     }
     assert_eq!(rt; files.read(alloc, &a, 1).map(|bytes| bytes.len()), Ok(2));
-    for (of, answer) in [(b"two", Ok(())), (b"six", Err(IoFault::Failed)), (b"ten", Ok(()))] {
+    for (of, answer) in [
+        (b"two", Ok(())),
+        (b"six", Err(IoFault::Failed)),
+        (b"ten", Ok(())),
+    ] {
         assert!(rt; files.write(&b, &bytes(alloc, of)?) == answer);
     }
-    assert!(rt; files.contents(&b).is_some_and(|found| found.as_slice() == b"ten"));
-    assert!(rt; files.contents(&a).is_some_and(|found| found.as_slice() == b"one"));
+    assert!(rt;
+        files
+            .contents(&b)
+            .is_some_and(|found| found.as_slice() == b"ten".as_slice())
+    );
+    assert!(rt;
+        files
+            .contents(&a)
+            .is_some_and(|found| found.as_slice() == b"one".as_slice())
+    );
     Ok(())
 }
