@@ -2,13 +2,13 @@
 use Rattle.std.specs.Prelude.{◌≡◌, ℕ, ◌+◌, ◌-◌, ◌^◌, min, List, Bool, true, nat_eq}
 use Rattle.std.specs.List.{list_any}
 
--- the number of the next call, after so many; it stays at the last value of a u64
-abbrev pub next_call : ℕ → ℕ
-next_call made = min (made + 1) (2 ^ 64 - 1)
+-- one more; a count stays at the last value of a u64
+abbrev pub one_more : ℕ → ℕ
+one_more count = min (count + 1) (2 ^ 64 - 1)
 
--- the number of the next call stands in the list
+-- after so many calls, the number of the next one stands in the list
 abbrev pub is_to_fail : List ℕ → ℕ → Bool
-is_to_fail failing made = list_any (λ nth. nat_eq nth (next_call made)) failing
+is_to_fail failing made = list_any (λ nth. nat_eq nth (one_more made)) failing
 
 abbrev pub IsToFail : List ℕ → ℕ → Type 0
 IsToFail failing made = is_to_fail failing made ≡ true

@@ -1,6 +1,6 @@
 //! The calls of one kind that an object in memory counts, and those of them that are to fail.
 ghost use Rattle.std.specs.Prelude.{◌≡◌, ◌++◌, [], ◌∷◌, OnOk, OnErr};
-ghost use Rattle.yarn_base.specs.Calls.{next_call, is_to_fail};
+ghost use Rattle.yarn_base.specs.Calls.{one_more, is_to_fail};
 
 use crate::{List, Memory};
 use std::alloc::Global;
@@ -34,7 +34,7 @@ impl Calls {
 
     // Counts one more call, and says whether it is to fail.
     pub fn next_fails(&mut self) -> bool
-        ensures made { self.new.made ≡ next_call self.old.made }
+        ensures made { self.new.made ≡ one_more self.old.made }
         ensures failing { self.new.failing ≡ self.old.failing }
         ensures value { result ≡ is_to_fail self.old.failing self.old.made }
     {

@@ -1,7 +1,7 @@
 //! Named files in memory, some of whose reads and writes fail. What files mean stands in docs/outside.md.
 ghost use Rattle.std.specs.Prelude.{◌≡◌, ◌≤◌, ◌+◌, ◌++◌, [], ◌∷◌, ◌⊎◌, ℕ, length, take, Some, None, MatchOption, OnOk, OnErr, IfOk, IfErr, IsErrOf};
 ghost use Rattle.std.specs.Option.{option_copied};
-ghost use Rattle.yarn_base.specs.Calls.{next_call, IsToFail};
+ghost use Rattle.yarn_base.specs.Calls.{one_more, IsToFail};
 ghost use Rattle.yarn_base.specs.Causes.{HasCause};
 ghost use Rattle.yarn_base.specs.Outside.{put, GivesFile, HoldsAfter, ChangesOnly};
 ghost use Rattle.yarn_base.specs.StoredFiles.{file_of, place_of};
@@ -32,7 +32,7 @@ pub struct MemoryFiles {
 }
 
 impl MemoryFiles {
-    ghost use Rattle.yarn_base.specs.MemoryFiles.{stored_in, reads_made, failing_reads, writes_made, failing_writes, IsNew, SameFiles, SameReads, SameWrites};
+    ghost use Rattle.yarn_base.specs.MemoryFiles.{stored_in, read_faults_in, latest_fault_in, write_faults_in, reads_made, failing_reads, writes_made, failing_writes, IsNew, SameFiles, SameReads, SameWrites};
 
     /// No files. No call was made and none is to fail. It takes no memory.
     pub fn new(alloc: Global) -> MemoryFiles
@@ -56,9 +56,9 @@ impl MemoryFiles {
         ensures back { IfErr result (λ b. b ≡ (name, bytes)) }
         ensures reads { SameReads self.old self.new }
         ensures writes { SameWrites self.old self.new }
-        ensures read_faults { self.new.read_faults ≡ self.old.read_faults }
-        ensures write_faults { self.new.write_faults ≡ self.old.write_faults }
-        ensures latest_fault { self.new.latest_fault ≡ self.old.latest_fault }
+        ensures read_faults { read_faults_in self.new ≡ read_faults_in self.old }
+        ensures write_faults { write_faults_in self.new ≡ write_faults_in self.old }
+        ensures latest_fault { latest_fault_in self.new ≡ latest_fault_in self.old }
     {
         put_in(&mut self.files, name, bytes)
     }
@@ -139,15 +139,15 @@ fn put_in(files: &mut Vec<StoredFile>, name: Text, bytes: List<u8>) -> Result<()
 }
 
 impl Files for MemoryFiles {
-    ghost use Rattle.yarn_base.specs.MemoryFiles.{stored_in, reads_made, failing_reads, writes_made, failing_writes, SameReads, SameWrites};
+    ghost use Rattle.yarn_base.specs.MemoryFiles.{stored_in, read_faults_in, latest_fault_in, write_faults_in, reads_made, failing_reads, writes_made, failing_writes, SameReads, SameWrites};
 
     ghost contents = { λ m. Some (stored_in m) };
 
-    ghost read_faults = { λ m. m.read_faults };
+    ghost read_faults = { read_faults_in };
 
-    ghost latest_fault = { λ m. m.latest_fault };
+    ghost latest_fault = { latest_fault_in };
 
-    ghost write_faults = { λ m. m.write_faults };
+    ghost write_faults = { write_faults_in };
 
     /// Fails where its number was given to `fail_read`, or where there is no such file. A failing read may
     /// also answer `Memory`.
@@ -156,16 +156,18 @@ impl Files for MemoryFiles {
         ensures bytes { IfOk result (λ v. GivesFile (Some (stored_in self.old)) name.now max v.items) }
         ensures bound { IfOk result (λ v. length v.items ≤ max + 1) }
         ensures same { Some (stored_in self.new) ≡ Some (stored_in self.old) }
-        ensures cause { HasCause self.old.read_faults self.new.read_faults result }
-        ensures named { IsErrOf result IoFault.Failed → self.new.latest_fault ≡ Some name.now }
-        ensures no_other { (IsErrOf result IoFault.Failed → ⊥) → self.new.latest_fault ≡ self.old.latest_fault }
-        ensures writes { self.new.write_faults ≡ self.old.write_faults }
+        ensures cause { HasCause (read_faults_in self.old) (read_faults_in self.new) result }
+        ensures named { IsErrOf result IoFault.Failed → latest_fault_in self.new ≡ Some name.now }
+        ensures no_other { (IsErrOf result IoFault.Failed → ⊥) → latest_fault_in self.new ≡ latest_fault_in self.old }
+        ensures memory_count { IsErrOf result IoFault.Memory → read_faults_in self.new ≡ read_faults_in self.old }
+        ensures writes { write_faults_in self.new ≡ write_faults_in self.old }
 
-        ensures counted { reads_made self.new ≡ next_call (reads_made self.old) }
+        ensures counted { reads_made self.new ≡ one_more (reads_made self.old) }
         ensures failing { failing_reads self.new ≡ failing_reads self.old }
         ensures fails { IsToFail (failing_reads self.old) (reads_made self.old) → OnErr result Unit }
         ensures why { IsErrOf result IoFault.Failed → IsToFail (failing_reads self.old) (reads_made self.old) ⊎ (stored_in self.old name.now ≡ None) }
-        ensures no_fault { (IsErrOf result IoFault.Failed → ⊥) → self.new.read_faults ≡ self.old.read_faults }
+        ensures fault { IsErrOf result IoFault.Failed → read_faults_in self.new ≡ one_more (read_faults_in self.old) }
+        ensures no_fault { (IsErrOf result IoFault.Failed → ⊥) → read_faults_in self.new ≡ read_faults_in self.old }
         ensures same_writes { SameWrites self.old self.new }
     {
         let fails = self.reads.next_fails();
@@ -189,15 +191,17 @@ impl Files for MemoryFiles {
         ensures ok { OnOk result (HoldsAfter (Some (stored_in self.old)) (Some (stored_in self.new)) name.now bytes.now) }
         ensures memory { IsErrOf result IoFault.Memory → Some (stored_in self.new) ≡ Some (stored_in self.old) }
         ensures failed { IsErrOf result IoFault.Failed → ChangesOnly (Some (stored_in self.old)) (Some (stored_in self.new)) name.now }
-        ensures cause { HasCause self.old.write_faults self.new.write_faults result }
-        ensures latest { self.new.latest_fault ≡ self.old.latest_fault }
-        ensures reads { self.new.read_faults ≡ self.old.read_faults }
+        ensures cause { HasCause (write_faults_in self.old) (write_faults_in self.new) result }
+        ensures latest { latest_fault_in self.new ≡ latest_fault_in self.old }
+        ensures memory_count { IsErrOf result IoFault.Memory → write_faults_in self.new ≡ write_faults_in self.old }
+        ensures reads { read_faults_in self.new ≡ read_faults_in self.old }
 
-        ensures counted { writes_made self.new ≡ next_call (writes_made self.old) }
+        ensures counted { writes_made self.new ≡ one_more (writes_made self.old) }
         ensures failing { failing_writes self.new ≡ failing_writes self.old }
         ensures fails { IsToFail (failing_writes self.old) (writes_made self.old) → IsErrOf result IoFault.Failed }
         ensures why { IsErrOf result IoFault.Failed → IsToFail (failing_writes self.old) (writes_made self.old) }
-        ensures no_fault { (IsErrOf result IoFault.Failed → ⊥) → self.new.write_faults ≡ self.old.write_faults }
+        ensures fault { IsErrOf result IoFault.Failed → write_faults_in self.new ≡ one_more (write_faults_in self.old) }
+        ensures no_fault { (IsErrOf result IoFault.Failed → ⊥) → write_faults_in self.new ≡ write_faults_in self.old }
         ensures stays { IsErrOf result IoFault.Failed → stored_in self.new ≡ stored_in self.old }
         ensures same_reads { SameReads self.old self.new }
     {

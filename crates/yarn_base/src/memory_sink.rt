@@ -1,7 +1,7 @@
 //! A sink in memory, some of whose writes fail. What a sink means stands in docs/outside.md.
 ghost use Rattle.std.specs.Prelude.{◌≡◌, ◌++◌, ◌<◌, ◌≤◌, [], ◌∷◌, length, take, Some, IfOk, OnOk, OnErr, IsErrOf};
 ghost use Rattle.std.specs.Io.KnownBytes.{append_known};
-ghost use Rattle.yarn_base.specs.Calls.{next_call, IsToFail};
+ghost use Rattle.yarn_base.specs.Calls.{one_more, IsToFail};
 ghost use Rattle.yarn_base.specs.Causes.{HasCause};
 
 use crate::calls::Calls;
@@ -71,10 +71,11 @@ impl Sink for MemorySink {
         ensures cause { HasCause (sink_faults self.old) (sink_faults self.new) result }
 
         ensures whole { IfOk result (λ n. n ≡ length from.now) }
-        ensures counted { sink_writes self.new ≡ next_call (sink_writes self.old) }
+        ensures counted { sink_writes self.new ≡ one_more (sink_writes self.old) }
         ensures failing { sink_failing self.new ≡ sink_failing self.old }
         ensures fails { IsToFail (sink_failing self.old) (sink_writes self.old) → IsErrOf result IoFault.Failed }
         ensures why { IsErrOf result IoFault.Failed → IsToFail (sink_failing self.old) (sink_writes self.old) }
+        ensures fault { IsErrOf result IoFault.Failed → sink_faults self.new ≡ one_more (sink_faults self.old) }
         ensures no_fault { (IsErrOf result IoFault.Failed → ⊥) → sink_faults self.new ≡ sink_faults self.old }
     {
         if self.calls.next_fails() {

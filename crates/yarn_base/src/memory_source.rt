@@ -2,7 +2,7 @@
 ghost use Rattle.std.specs.Prelude.{◌≡◌, ◌≤◌, ◌<◌, ◌+◌, ◌++◌, [], ◌∷◌, drop, take, length, min, Some, IfOk, OnOk, OnErr};
 ghost use Rattle.std.specs.Io.{ReadsAtMost};
 ghost use Rattle.std.specs.Io.KnownBytes.{prepend_known, IsAtEnd};
-ghost use Rattle.yarn_base.specs.Calls.{next_call, IsToFail};
+ghost use Rattle.yarn_base.specs.Calls.{one_more, IsToFail};
 ghost use Rattle.yarn_base.specs.Causes.{FailsByCount};
 
 use crate::calls::Calls;
@@ -77,10 +77,11 @@ impl Source for MemorySource {
 
         ensures gives { IfOk result (λ n. n ≡ min (min (length (left_in self.old)) (source_piece self.old)) (length into.old)) }
         ensures piece { source_piece self.new ≡ source_piece self.old }
-        ensures counted { source_reads self.new ≡ next_call (source_reads self.old) }
+        ensures counted { source_reads self.new ≡ one_more (source_reads self.old) }
         ensures failing { source_failing self.new ≡ source_failing self.old }
         ensures fails { IsToFail (source_failing self.old) (source_reads self.old) → OnErr result Unit }
         ensures why { OnErr result (IsToFail (source_failing self.old) (source_reads self.old)) }
+        ensures fault { OnErr result (source_faults self.new ≡ one_more (source_faults self.old)) }
         ensures no_fault { OnOk result (source_faults self.new ≡ source_faults self.old) }
     {
         if self.calls.next_fails() {

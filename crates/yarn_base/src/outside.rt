@@ -33,6 +33,7 @@ pub trait Files {
         ensures cause { HasCause (read_faults self.old) (read_faults self.new) result }
         ensures named { IsErrOf result IoFault.Failed → latest_fault self.new ≡ Some name.now }
         ensures no_other { (IsErrOf result IoFault.Failed → ⊥) → latest_fault self.new ≡ latest_fault self.old }
+        ensures memory_count { IsErrOf result IoFault.Memory → read_faults self.new ≡ read_faults self.old }
         ensures writes { write_faults self.new ≡ write_faults self.old };
 
     /// Puts the bytes under the name, in place of what stood there. `Failed` comes only where the count of write faults
@@ -43,6 +44,7 @@ pub trait Files {
         ensures failed { IsErrOf result IoFault.Failed → ChangesOnly (contents self.old) (contents self.new) name.now }
         ensures cause { HasCause (write_faults self.old) (write_faults self.new) result }
         ensures latest { latest_fault self.new ≡ latest_fault self.old }
+        ensures memory_count { IsErrOf result IoFault.Memory → write_faults self.new ≡ write_faults self.old }
         ensures reads { read_faults self.new ≡ read_faults self.old };
 }
 

@@ -1,6 +1,10 @@
 //! Each public call once with ample memory, and a table of failing reads and writes.
+ghost use Rattle.std.specs.Prelude.{◌≡◌, ◌<◌};
+
 use super::*;
 use std::alloc::Global;
+use std::marker::Brand;
+use std::sync::ledger::{Blank, Ledger};
 
 fn text(alloc: Global, of: &str) -> Result<Text, Memory> {
     Text::from_str(alloc, of)
@@ -177,4 +181,26 @@ fn failing_calls_of_files(rt: HostRuntime) -> Result<(), Memory> {
             .is_some_and(|found| found.as_slice() == b"one".as_slice())
     );
     Ok(())
+}
+
+// A count of steps, for the ledger of a caller that counts nothing.
+fn counted<L: Ledger>(blank: Blank) -> Steps<L>
+    requires name { blank.name ≡ L.name }
+    requires parts { blank.parts ≡ L.parts }
+    requires some { 0 < blank.parts }
+    ensures { result ≡ 1 }
+{
+    let mut steps = Steps::new(blank);
+    steps.tick();
+    steps
+}
+
+fn one_step() {
+    let _ = counted::<Brand>(Blank::new(1));
+}
+
+#[test]
+fn steps(rt: HostRuntime) {
+    let _ = rt;
+    one_step();
 }
