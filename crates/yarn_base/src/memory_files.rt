@@ -1,6 +1,7 @@
 //! Named files in memory, some of whose reads and writes fail. What files mean stands in docs/outside.md.
 ghost use Rattle.std.specs.Prelude.{◌≡◌, ◌≤◌, ◌+◌, ◌++◌, [], ◌∷◌, ◌⊎◌, ℕ, length, take, Some, None, MatchOption, OnOk, OnErr, IfOk, IfErr, IsErrOf};
 ghost use Rattle.std.specs.Option.{option_copied};
+ghost use Rattle.std.specs.Result.{IsErr};
 ghost use Rattle.yarn_base.specs.Calls.{one_more, IsToFail};
 ghost use Rattle.yarn_base.specs.Causes.{HasCause};
 ghost use Rattle.yarn_base.specs.Outside.{put, GivesFile, HoldsAfter, ChangesOnly};
@@ -164,7 +165,7 @@ impl Files for MemoryFiles {
 
         ensures counted { reads_made self.new ≡ one_more (reads_made self.old) }
         ensures failing { failing_reads self.new ≡ failing_reads self.old }
-        ensures fails { IsToFail (failing_reads self.old) (reads_made self.old) → OnErr result Unit }
+        ensures fails { IsToFail (failing_reads self.old) (reads_made self.old) → IsErr result }
         ensures why { IsErrOf result IoFault.Failed → IsToFail (failing_reads self.old) (reads_made self.old) ⊎ (stored_in self.old name.now ≡ None) }
         ensures fault { IsErrOf result IoFault.Failed → read_faults_in self.new ≡ one_more (read_faults_in self.old) }
         ensures no_fault { (IsErrOf result IoFault.Failed → ⊥) → read_faults_in self.new ≡ read_faults_in self.old }

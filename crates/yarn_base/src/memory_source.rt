@@ -1,6 +1,7 @@
 //! A source in memory, some of whose reads fail. What a source means stands in docs/outside.md.
 ghost use Rattle.std.specs.Prelude.{◌≡◌, ◌≤◌, ◌<◌, ◌+◌, ◌++◌, [], ◌∷◌, drop, take, length, min, Some, IfOk, OnOk, OnErr};
 ghost use Rattle.std.specs.Io.{ReadsAtMost};
+ghost use Rattle.std.specs.Result.{IsErr};
 ghost use Rattle.std.specs.Io.KnownBytes.{prepend_known, IsAtEnd};
 ghost use Rattle.yarn_base.specs.Calls.{one_more, IsToFail};
 ghost use Rattle.yarn_base.specs.Causes.{FailsByCount};
@@ -79,7 +80,7 @@ impl Source for MemorySource {
         ensures piece { source_piece self.new ≡ source_piece self.old }
         ensures counted { source_reads self.new ≡ one_more (source_reads self.old) }
         ensures failing { source_failing self.new ≡ source_failing self.old }
-        ensures fails { IsToFail (source_failing self.old) (source_reads self.old) → OnErr result Unit }
+        ensures fails { IsToFail (source_failing self.old) (source_reads self.old) → IsErr result }
         ensures why { OnErr result (IsToFail (source_failing self.old) (source_reads self.old)) }
         ensures fault { OnErr result (source_faults self.new ≡ one_more (source_faults self.old)) }
         ensures no_fault { OnOk result (source_faults self.new ≡ source_faults self.old) }
