@@ -183,20 +183,19 @@ fn failing_calls_of_files(rt: HostRuntime) -> Result<(), Memory> {
     Ok(())
 }
 
-// A count of steps, for the ledger of a caller that counts nothing.
-fn counted<L: Ledger>(blank: Blank) -> Steps<L>
+// Counts for any ledger.
+fn counted<L: Ledger>(blank: Blank)
     requires name { blank.name ≡ L.name }
     requires parts { blank.parts ≡ L.parts }
     requires some { 0 < blank.parts }
-    ensures { result ≡ 1 }
 {
-    let mut steps = Steps::new(blank);
+    let mut steps = Steps::<L>::new(blank);
     steps.tick();
-    steps
 }
 
+// Counts for the ledger of a caller that counts nothing.
 fn one_step() {
-    let _ = counted::<Brand>(Blank::new(1));
+    counted::<Brand>(Blank::new(1));
 }
 
 #[test]
