@@ -3,7 +3,7 @@ use Rattle.std.proofs.Common.{◌≡◌, ℕ, ◌<◌, suc, List, [], ◌∷◌,
 use mathlib.Core.Path.{fun_ext}
 use Rattle.std.specs.Cmp.Lexicographic.{pointwise, nat_list_eq_equiv}
 use Rattle.yarn_base.specs.Outside.{put}
-use Rattle.yarn_base.specs.Memory.{file_of, place_of}
+use Rattle.yarn_base.specs.StoredFiles.{file_of, place_of}
 use Rattle.yarn_base.specs.declared.memory_files.StoredFile.{StoredFile}
 
 abbrev same : List ℕ → List ℕ → Bool

@@ -1,3 +1,4 @@
+//! The trusted edge: real files, readers and writers. They tell no content, and count each `Err` of std.
 ghost use Rattle.std.specs.Prelude.{◌≡◌, None};
 
 use crate::{Failed, Files, IoFault, List, Sink, Source, Text};
@@ -5,7 +6,7 @@ use std::alloc::Global;
 use std::io::{self, Read, Write};
 use std::{fs, rt};
 
-/// The files of the system. It tells no contents.
+/// The files of the system. They tell no contents. The rule is docs/outside.md, "The adapters".
 #[derive(Drop)]
 pub struct RealFiles<R: rt::Files + Drop> {
     rt: R,
@@ -17,6 +18,7 @@ pub struct RealFiles<R: rt::Files + Drop> {
 impl<R: rt::Files + Drop> RealFiles<R> {
     ghost use Rattle.yarn_base.specs.Adapters.{HasNoFault};
 
+    /// The files that this runtime reaches. The counts begin at 0.
     pub fn new(rt: R) -> RealFiles<R>
         ensures { HasNoFault result }
     {
@@ -66,6 +68,7 @@ impl<R: rt::Files + Drop> Files for RealFiles<R> {
     }
 }
 
+// The first `max + 1` bytes of a file; want of memory on the way is an `Err` of std too.
 fn read_first<R: rt::Files>(rt: &R, alloc: Global, name: &str, max: usize) -> io::Result<Vec<u8>> {
     let mut bytes = Vec::new(alloc);
     let most = (max as u64).saturating_add(1);
@@ -73,7 +76,7 @@ fn read_first<R: rt::Files>(rt: &R, alloc: Global, name: &str, max: usize) -> io
     Ok(bytes)
 }
 
-/// A reader of the system. It tells no bytes.
+/// A reader of the system, as standard input. It tells no bytes. The rule is docs/outside.md, "The adapters".
 #[derive(Drop)]
 pub struct ReaderSource<R: Read + Drop> {
     reader: R,
@@ -83,6 +86,7 @@ pub struct ReaderSource<R: Read + Drop> {
 impl<R: Read + Drop> ReaderSource<R> {
     ghost use Rattle.yarn_base.specs.Adapters.{reader_faults};
 
+    /// A source of what this reader gives. The count begins at 0.
     pub fn new(reader: R) -> ReaderSource<R>
         ensures { reader_faults result ≡ 0 }
     {
@@ -106,7 +110,7 @@ impl<R: Read + Drop> Source for ReaderSource<R> {
     }
 }
 
-/// A writer of the system. It tells no bytes.
+/// A writer of the system, as standard output. It tells no bytes. The rule is docs/outside.md, "The adapters".
 #[derive(Drop)]
 pub struct WriterSink<W: Write + Drop> {
     writer: W,
@@ -116,6 +120,7 @@ pub struct WriterSink<W: Write + Drop> {
 impl<W: Write + Drop> WriterSink<W> {
     ghost use Rattle.yarn_base.specs.Adapters.{writer_faults};
 
+    /// A sink for what this writer takes. The count begins at 0.
     pub fn new(writer: W) -> WriterSink<W>
         ensures { writer_faults result ≡ 0 }
     {

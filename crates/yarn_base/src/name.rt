@@ -1,3 +1,4 @@
+//! Which texts are names of nodes, functions and variables.
 ghost use Rattle.std.specs.Prelude.{◌≡◌};
 ghost use Rattle.std.specs.Str.{chars};
 ghost use Rattle.std.specs.List.{list_all};
@@ -5,22 +6,22 @@ ghost use Rattle.yarn_base.specs.Name.{is_name_of, is_variable_of, starts_name, 
 
 use crate::Text;
 
-/// Whether the text is a name: `_` or a character that may start an identifier, and then
-/// characters that may continue one, or dots.
+/// Whether the text is a name: `_` or a character that may start an identifier (XID_Start of Unicode), and then
+/// characters that may continue one (XID_Continue) or dots. The rule is docs/language.md, "Nodes".
 pub fn is_name(text: &Text) -> bool
     ensures { result ≡ is_name_of (chars text.now) }
 {
     is_name_str(text.as_str())
 }
 
-/// Whether the text is a variable: `$` and a name.
+/// Whether the text is a variable: `$` and a name. The rule is docs/language.md, "Nodes".
 pub fn is_variable(text: &Text) -> bool
     ensures { result ≡ is_variable_of (chars text.now) }
 {
     is_variable_str(text.as_str())
 }
 
-/// The same for a piece of a text.
+/// Whether a piece of a text is a name, as [`is_name`] says it.
 #[tactic(auto, using(std::proofs::lemmas::Str::chars_past_char))]
 pub fn is_name_str(text: &str) -> bool
     ensures { result ≡ is_name_of (chars text.now) }

@@ -1,5 +1,6 @@
+-- The name stands nowhere among the files that were looked at.
 use Rattle.std.proofs.Common.{◌≡◌, ◌+◌, drop, option_map}
-use Rattle.yarn_base.specs.Memory.{place_of}
+use Rattle.yarn_base.specs.StoredFiles.{place_of}
 use Rattle.yarn_base.proofs.memory_files.place.Given as goal
 
 abbrev pub invariant-loop-at : goal.invariant-loop-at

@@ -1,3 +1,4 @@
+-- A file that is put under a name stands under it.
 use Rattle.std.proofs.Common.{sym, arith}
 use Rattle.yarn_base.proofs.Stored.{stored-push, stored-set, place_of-bound}
 use Rattle.yarn_base.proofs.memory_files.put_in.Goals as goal

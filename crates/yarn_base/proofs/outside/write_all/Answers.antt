@@ -1,3 +1,4 @@
+-- One more piece is written.
 use Rattle.std.proofs.Common.{◌++◌, take, ap, sym, ◌∙◌, arith}
 use Rattle.std.specs.Io.KnownBytes.{append_known}
 use Rattle.yarn_base.proofs.Written.{append_known-append, moves_front}

@@ -1,3 +1,4 @@
+-- All but the rest is written, and the rest gets shorter.
 use Rattle.std.proofs.Common.{length}
 use Rattle.yarn_base.proofs.Written.{IsWritten}
 use Rattle.yarn_base.proofs.outside.write_all.Given as goal

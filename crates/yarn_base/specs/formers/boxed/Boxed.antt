@@ -54,10 +54,10 @@ module _ (From To : RattleType) (along : From.Denot → To.Denot) where
   pub the_places : Alike From To along → Alike (seen.the_row From) (seen.the_row To) ((the_former this).map From.Denot To.Denot along)
   the_places alike =
       let inside = struct_places (stored.the_type From) (stored.the_type To) ((λ it. holding it (along it.value)), tt) _ (λ it. refl) refl
-              (laid _ _ _ (same_box alike), tt) in
+      (laid _ _ _ (same_box alike), tt) in
       view_places parts this view (λ T U f it. refl) (λ T it. refl) From.Denot To.Denot along (seen.the_row From).coded (seen.the_row To).coded
-          (invariant From.Denot) (invariant To.Denot) (λ it p q. refl) (λ it p q. refl) (λ it holds. tt) (λ it holds. tt)
-          (over (stored.the_row From)) (over (stored.the_row To)) inside
+      (invariant From.Denot) (invariant To.Denot) (λ it p q. refl) (λ it p q. refl) (λ it holds. tt) (λ it holds. tt)
+      (over (stored.the_row From)) (over (stored.the_row To)) inside
 
   pub the_codes_placed : Recodes From To along → Recodes (seen.the_row From) (seen.the_row To) ((the_former this).map From.Denot To.Denot along)
   the_codes_placed same value = same value

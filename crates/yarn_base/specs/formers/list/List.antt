@@ -43,10 +43,10 @@ module _ (From To : RattleType) (along : From.Denot → To.Denot) where
   same_vector : Alike From To along → Alike (seen.the_row From) (seen.the_row To) ((the_former this).map From.Denot To.Denot along)
   same_vector alike =
       let inside = struct_places (stored.the_type From) (stored.the_type To) (vector.mapped along, tt) _ (λ it. refl) refl
-              (laid _ _ _ (vector.the_places heap.the_row ghosts From To along alike), tt) in
+      (laid _ _ _ (vector.the_places heap.the_row ghosts From To along alike), tt) in
       view_places field (list this) view (λ T U f it. refl) (λ T it. refl) From.Denot To.Denot along (seen.the_row From).coded (seen.the_row To).coded
-          (invariant From.Denot) (invariant To.Denot) (λ it p q. refl) (λ it p q. refl) (λ it holds. tt) (λ it holds. tt)
-          (over (stored.the_row From)) (over (stored.the_row To)) inside
+      (invariant From.Denot) (invariant To.Denot) (λ it p q. refl) (λ it p q. refl) (λ it holds. tt) (λ it holds. tt)
+      (over (stored.the_row From)) (over (stored.the_row To)) inside
 
   pub the_places : Alike From To along → Alike (seen.the_row From) (seen.the_row To) ((the_former this).map From.Denot To.Denot along)
   the_places = same_vector

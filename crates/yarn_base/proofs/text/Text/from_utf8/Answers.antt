@@ -1,3 +1,4 @@
+-- The bytes of a string are UTF-8.
 use Rattle.std.proofs.Common.{ap, subst, IsUtf8}
 use Rattle.std.proofs.lemmas.Str.{IsUtf8-string_bytes}
 use Rattle.yarn_base.proofs.text.Text.from_utf8.Goals as goal
