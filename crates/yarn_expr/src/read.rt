@@ -48,8 +48,8 @@ fn join<'a>(
     let depth = 1 + left.depth.max(right.depth);
     let expr = Expr::Binary(
         op,
-        Boxed::new(alloc, left.expr)?,
-        Boxed::new(alloc, right.expr)?,
+        Boxed::new(alloc, left.expr).map_err(|_| Memory)?,
+        Boxed::new(alloc, right.expr).map_err(|_| Memory)?,
     );
     Ok(Part {
         expr,
@@ -134,7 +134,7 @@ fn read_prefix<'a>(alloc: Global, limit: usize, tokens: &'a [Token]) -> Result<P
         Some(op) => {
             let inner = read_level(alloc, limit - 1, 1, rest)?;
             Ok(Part {
-                expr: Expr::Unary(op, Boxed::new(alloc, inner.expr)?),
+                expr: Expr::Unary(op, Boxed::new(alloc, inner.expr).map_err(|_| Memory)?),
                 depth: inner.depth + 1,
                 rest: inner.rest,
             })
@@ -188,7 +188,7 @@ fn read_group<'a>(alloc: Global, limit: usize, tokens: &'a [Token]) -> Result<Pa
     let inner = read_level(alloc, limit - 1, 6, tokens)?;
     match behind_close(inner.rest) {
         Some(rest) => Ok(Part {
-            expr: Expr::Group(Boxed::new(alloc, inner.expr)?),
+            expr: Expr::Group(Boxed::new(alloc, inner.expr).map_err(|_| Memory)?),
             depth: inner.depth + 1,
             rest,
         }),
