@@ -1,4 +1,5 @@
 pub mod CommandLemmas
+pub mod CommandLineLemmas
 pub mod ReadLemmas
 pub mod RunLemmas
 pub mod WordsLemmas

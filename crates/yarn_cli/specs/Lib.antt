@@ -1,5 +1,7 @@
 pub mod Command
+pub mod CommandLine
 pub mod Ended
+pub mod Laws
 pub mod Messages
 pub mod Outcome
 pub mod Status
