@@ -1,4 +1,4 @@
--- The line on the error sink (docs/commands.md, Messages).
+-- The line on the error sink (docs/commands.md, Statuses).
 use Rattle.std.specs.Prelude.{ℕ, List, [], ◌∷◌, ◌++◌, codes}
 use Rattle.std.specs.Fmt.{decimal}
 use Rattle.yarn_player.specs.Meaning.{Fault}

@@ -1,5 +1,5 @@
 -- The place of the first LF.
-use Rattle.std.proofs.Common.{◌≡◌, ℕ, zero, suc, ◌+◌, ◌<◌, ◌≤◌, List, [], ◌∷◌, length, Bool, true, false, nat_eq, refl, arith}
+use Rattle.std.proofs.Common.{◌≡◌, ℕ, zero, suc, ◌<◌, List, [], ◌∷◌, length, Bool, true, false, nat_eq, refl, arith}
 use Rattle.memchr.specs.Find.{Passes, Nowhere, is_byte}
 use Rattle.yarn_lines.specs.Piece.{length_to_lf}
 

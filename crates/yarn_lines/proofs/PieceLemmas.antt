@@ -4,7 +4,7 @@ use Rattle.std.proofs.lemmas.Bool.{eqb-true}
 use Rattle.std.proofs.lemmas.List.{take_more, take_rest}
 use Rattle.std.proofs.lemmas.List.Folds.{list_all-append}
 use Rattle.std.specs.List.{list_all}
-use Rattle.yarn_lines.specs.Lines.{pieces_of, is_blank, without_cr, without_trailing, leading, past_leading, content, text_of}
+use Rattle.yarn_lines.specs.Lines.{pieces_of, is_blank, without_cr, without_trailing, leading, past_leading}
 use Rattle.yarn_lines.specs.Piece.{length_to_lf}
 
 pub pieces_of-cut : (bytes : List ℕ) → length_to_lf bytes < length bytes →

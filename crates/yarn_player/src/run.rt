@@ -16,7 +16,7 @@ use yarn_base::{IoFault, Sink, Text};
 use yarn_tree::Node;
 
 /// Plays from the node of the title `start` on, and writes the transcript of the first `limit` events
-/// (docs/language.md, The meaning; docs/formats.md, Transcript). The answer says where the run stands then.
+/// (docs/language.md, The meaning, The transcript). The answer says where the run stands then.
 ///
 /// `UnknownStart` comes before anything is written, and only where no node has that title. After another
 /// fault the front of the transcript is written.

@@ -1,4 +1,4 @@
--- What the items of a body stand for (docs/language.md, Structure of a body), and the ids of its lines.
+-- What the items of a body stand for (docs/language.md, Body lines), and the ids of its lines.
 use Rattle.std.specs.Prelude.{◌≡◌, ℕ, ◌+◌, List, [], ◌∷◌, ◌++◌, codes}
 use Rattle.std.specs.Fmt.{decimal}
 use Rattle.yarn_tree.specs.declared.tree.LineText.{LineText}

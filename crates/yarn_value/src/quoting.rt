@@ -1,5 +1,5 @@
 //! Quoted strings: a text between two quotes, with `\\`, `\"`, `\n` and `\r` for the four bytes
-//! that may not stand there by themselves (docs/formats.md, the variables file).
+//! that may not stand there by themselves (docs/formats.md, Quoted strings).
 ghost use Rattle.std.specs.Prelude.{◌≡◌, ◌++◌, ◌∷◌, [], encode_utf8, IfOk, OnOk, IfSome, IsUtf8, MatchOption};
 ghost use Rattle.yarn_value.specs.Quoting.{quoted, escape, IsQuoted, IsBody, QuotedOnce};
 ghost use Rattle.yarn_value.specs.QuotingSteps.{IsPart};
