@@ -2,7 +2,6 @@
 use Rattle.std.proofs.Common.{◌≡◌, ℕ, ◌+◌, ◌<◌, ◌≤◌, List, length, take, Option, Some, None, option_map, IfSome, nat_lt, Bool, true, false, refl, sym, ap, ◌∙◌, arith, length-take, take_all, subst}
 use Rattle.std.proofs.lemmas.Bool.Decides.{nat_tests}
 use Rattle.yarn_base.specs.Outside.{Named, GivesFile, WritesPart}
-use Rattle.yarn_base.proofs.Written.{WritesPart-none}
 use Rattle.yarn_tree.specs.declared.refusal.RefusalKind.TheVariants.{NotBuilt}
 use Rattle.yarn_tree.specs.Reading.{Refuses, reading_of}
 use Rattle.yarn_cli.specs.declared.message.Ended.{Ended}

@@ -10,7 +10,7 @@ use Rattle.yarn_cli.specs.declared.message.Ended.{Ended}
 use Rattle.yarn_cli.specs.declared.status.Status.{Status}
 use Rattle.yarn_cli.specs.declared.status.Status.TheVariants.{RefusedProject, ReadFault, WriteFault, OutOfMemory}
 use Rattle.yarn_cli.specs.Command.{Play, Pairs, no_pairs, with_pair, with_start, with_limit, limited, given, play_of, command_of, limit_in}
-use Rattle.yarn_cli.specs.Ended.{Says, GivesSoFar}
+use Rattle.yarn_cli.specs.Ended.{GivesSoFar}
 use Rattle.yarn_cli.specs.Messages.{refused}
 use Rattle.yarn_cli.specs.Outcome.{IsPlain, of_reading}
 use Rattle.yarn_cli.specs.Words.{limit_of, is_number, is_name_word, number_behind}

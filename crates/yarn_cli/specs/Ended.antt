@@ -7,7 +7,7 @@ use Rattle.std.specs.declared.string.String.{String}
 use Rattle.yarn_cli.specs.declared.message.Ended.{Ended}
 use Rattle.yarn_cli.specs.declared.status.Status.{Status}
 use Rattle.yarn_cli.specs.declared.status.Status.TheVariants.{OutOfMemory}
-use Rattle.yarn_cli.specs.Outcome.{Outcome, IsPlain}
+use Rattle.yarn_cli.specs.Outcome.{Outcome}
 
 -- the status with its line, or want of memory
 abbrev pub Tells : Status → Result (String Global) AllocError → Ended → Type 0

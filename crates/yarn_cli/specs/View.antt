@@ -1,5 +1,5 @@
 -- The command that the code found, as one of the definitions.
-use Rattle.std.specs.Prelude.{ℕ, List, Option, Some, None}
+use Rattle.std.specs.Prelude.{Option, Some, None}
 use Rattle.std.specs.Option.{option_copied}
 use Rattle.yarn_cli.specs.Command.{Play, Pairs}
 use Rattle.yarn_cli.specs.declared.command.Pairs.{Pairs as PairsFound}

@@ -1,5 +1,5 @@
 -- Names among bytes.
-use Rattle.std.proofs.Common.{◌≡◌, ℕ, List, Bool, true, false, ◌&&◌, IsUtf8, refl, ap}
+use Rattle.std.proofs.Common.{◌≡◌, ℕ, List, Bool, true, false, IsUtf8, refl}
 use Rattle.std.proofs.lemmas.Str.{is_utf8-from_IsUtf8, IsUtf8-from_is_utf8}
 use Rattle.std.specs.Str.{chars, is_utf8}
 use Rattle.yarn_base.specs.Name.{is_name_of}

@@ -1,5 +1,5 @@
 -- Titles, one node after the other.
-use Rattle.std.proofs.Common.{◌≡◌, ℕ, ◌+◌, ◌<◌, List, [], ◌∷◌, length, drop, Bool, true, false, ◌||◌, refl, sym, ap, ◌∙◌, add-one, get_or, drop-cons}
+use Rattle.std.proofs.Common.{◌≡◌, ℕ, ◌+◌, ◌<◌, List, length, drop, Bool, true, false, ◌||◌, refl, sym, ap, ◌∙◌, add-one, get_or, drop-cons}
 use Rattle.std.specs.Str.{bytes_eq}
 use Rattle.yarn_tree.specs.declared.tree.Node.{Node}
 use Rattle.yarn_tree.specs.Names.{and_name}

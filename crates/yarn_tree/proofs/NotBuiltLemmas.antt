@@ -1,14 +1,14 @@
 -- What a line that has no odd form tells.
-use Rattle.std.proofs.Common.{◌≡◌, ℕ, ◌<◌, List, [], ◌∷◌, Bool, true, false, ◌&&◌, nat_lt, cond, Option, Some, None, codes, refl, sym, subst, ◌∙◌, arith}
+use Rattle.std.proofs.Common.{◌≡◌, ℕ, ◌<◌, List, [], ◌∷◌, Bool, true, false, ◌&&◌, nat_lt, Option, Some, None, codes, refl, sym, subst, arith}
 use Rattle.std.proofs.lemmas.Bool.Decides.{nat_tests}
 use Rattle.std.specs.List.{list_any}
 use Rattle.std.specs.Str.{bytes_eq}
 use Rattle.yarn_lines.specs.Lines.{is_blank, past_leading}
 use Rattle.yarn_tree.specs.declared.item.Mode.{Mode}
 use Rattle.yarn_tree.specs.declared.item.Mode.TheVariants.{InHeaders, InBody}
-use Rattle.yarn_tree.specs.Item.{Item, HeaderOf, BodyBegins, NodeEnds, Plain, JumpTo, is_name_text, is_special}
-use Rattle.yarn_tree.specs.Form.{given, behind, before, name_behind, jump_of, body_item, item_of}
-use Rattle.yarn_tree.specs.NotBuilt.{Seen, is_one, is_new_title, is_odd_by}
+use Rattle.yarn_tree.specs.Item.{Item, HeaderOf, BodyBegins, is_name_text, is_special}
+use Rattle.yarn_tree.specs.Form.{given, behind, before, name_behind, body_item, item_of}
+use Rattle.yarn_tree.specs.NotBuilt.{Seen, is_one, is_odd_by}
 
 -- an item that a body's line may be
 abbrev IsOfBody : Option Item → Type 0

@@ -9,7 +9,7 @@ use Rattle.yarn_tree.specs.declared.not_built.Few.{Few}
 use Rattle.yarn_tree.specs.declared.not_built.Few.TheVariants.{Zero, One, More}
 use Rattle.yarn_tree.specs.Item.{Item, HeaderOf, BodyBegins, NodeEnds, is_name_text}
 use Rattle.yarn_tree.specs.Names.{no_name, and_name}
-use Rattle.yarn_tree.specs.Form.{item_of, mode_after}
+use Rattle.yarn_tree.specs.Form.{item_of}
 
 abbrev pub and_one : Few → Few
 and_one Zero = One

@@ -1,4 +1,4 @@
-use Rattle.std.proofs.Common.{◌≡◌, ◌+◌, ◌<◌, ◌∙◌, ap, refl, arith, Bool}
+use Rattle.std.proofs.Common.{◌≡◌, ◌+◌, ◌<◌, ◌∙◌, ap, refl, arith}
 use Rattle.yarn_tree.proofs.TableLemmas.{agrees-at}
 use Rattle.yarn_tree.specs.declared.item.TheConstants.{IS_SPECIAL}
 use Rattle.yarn_tree.specs.Item.{is_special}

@@ -1,4 +1,4 @@
-use Rattle.std.proofs.Common.{◌≡◌, ◌||◌, ap, ◌∙◌, sym}
+use Rattle.std.proofs.Common.{◌||◌, ap}
 use Rattle.yarn_tree.specs.Jumps.{titles}
 use Rattle.yarn_tree.specs.Names.{has}
 use Rattle.yarn_tree.proofs.JumpsLemmas.{titles-step}
