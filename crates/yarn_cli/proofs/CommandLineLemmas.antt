@@ -1,209 +1,246 @@
 -- The command that is found of words is the one that they say.
-use Rattle.std.proofs.Common.{◌≡◌, ℕ, List, [], ◌∷◌, ◌++◌, Option, Some, None, Bool, true, false, is_none, codes, refl, sym, ap, subst, ◌∙◌}
+use Rattle.std.proofs.Common.{◌≡◌, ℕ, List, [], ◌∷◌, ◌++◌, length, Option, Some, None, Result, Ok, Err, IfOk, Bool, true, false, is_none, refl, sym, ap, subst, ◌∙◌}
+use Rattle.std.proofs.lemmas.List.{append_assoc}
+use Rattle.std.proofs.lemmas.List.Elements.{All-nil, All-cons, All-head, All-tail, All-append}
+use Rattle.std.specs.List.{All}
 use Rattle.std.specs.Str.{bytes_eq}
 use Rattle.std.proofs.lemmas.Slice.Eq.{bytes_eq-Decides}
-use Rattle.yarn_cli.specs.Command.{Play, Pairs, no_pairs, with_pair, with_start, with_limit, given, play_of, command_of}
-use Rattle.yarn_cli.specs.CommandLine.{Pair, Start, Limit, spelled, starts, limits, IsGiven, name_of, CommandLine}
-use Rattle.yarn_cli.specs.Words.{is_name_word, limit_of}
+use Rattle.yarn_base.specs.declared.memory.Memory.{Memory}
+use Rattle.yarn_cli.specs.declared.command.CommandKind.{CommandKind}
+use Rattle.yarn_cli.specs.declared.command.CommandKind.TheVariants.{Play, Format}
+use Rattle.yarn_cli.specs.declared.command.Pair.{Pair}
+use Rattle.yarn_cli.specs.Command.{Command, value_of}
+use Rattle.yarn_cli.specs.CommandLine.{Row, CommandLine, IsPairOf, Once, word_of, rows_of, row_in, dashed, fits_form, fits_row, is_count_of, are_names_of, spelled, spelled_pairs}
+use Rattle.yarn_cli.specs.Found.{kind_of, with_names, with_pair, given, at_row, found_behind, command_of}
+use Rattle.yarn_cli.specs.Laws.{WordsSay}
+use Rattle.yarn_cli.specs.Words.{is_name_word}
+use Rattle.yarn_cli.proofs.PairsLemmas.{row_in-name, row_in-no_name, Once-push, Once-free}
 
--- what words give for one name, where a value may have been taken before
-abbrev IsAdded : {A : Type 0} → (List ℕ → Option A) → Option A → List (List ℕ) → Option A → Type 0
-IsAdded value None words given = IsGiven value words given
-IsAdded value (Some a) words given = (words ≡ []) × (given ≡ Some a)
-
-added-none : {A : Type 0} (value : List ℕ → Option A) (taken : Option A) → IsAdded value taken [] taken
-added-none value None = refl
-added-none value (Some a) = (refl, refl)
-
-none-added : {A : Type 0} (value : List ℕ → Option A) (taken given : Option A) → IsAdded value taken [] given → taken ≡ given
-none-added value None given is = sym is
-none-added value (Some a) given is = sym is.1
-
-added-first : {A : Type 0} (value : List ℕ → Option A) (taken : Option A) (word : List ℕ) (words : List (List ℕ)) (given : Option A) (a : A) →
-    taken ≡ None → value word ≡ Some a → IsAdded value (Some a) words given → IsAdded value taken (word ∷ words) given
-added-first value None word [] given a free is rest = (a, is, rest.1)
-added-first value None word (other ∷ words) given a free is rest = let h = rest.0 in absurd cc
-added-first value (Some b) word words given a free is rest = absurd cc
-
--- the value of the first word, and what the others add to it
-record IsFirst {A : Type 0} (value : List ℕ → Option A) (taken : Option A) (word : List ℕ) (words : List (List ℕ)) (given : Option A) : Type 0 where
-  pub first : A
-  pub free : taken ≡ None
-  pub is : value word ≡ Some first
-  pub rest : IsAdded value (Some first) words given
-
-first-added : {A : Type 0} (value : List ℕ → Option A) (taken : Option A) (word : List ℕ) (words : List (List ℕ)) (given : Option A) →
-    IsAdded value taken (word ∷ words) given → IsFirst value taken word words given
-first-added value None word [] given is = record { first = is.0; free = refl; is = is.1; rest = (refl, is.2) }
-first-added value None word (other ∷ words) given is = absurd is
-first-added value (Some b) word words given is = let h = is.0 in absurd cc
+-- pairs that were taken
+record AreTaken (kind : CommandKind) (taken : List Pair) : Type 0 where
+  pub pairs : All (IsPairOf kind) taken
+  pub once : Once taken
 
 -- what words behind the pairs that were taken say
-record IsLine (taken : Pairs) (words : List (List ℕ)) (play : Play) : Type 0 where
-  pub pairs : List Pair
-  pub split : words ≡ spelled pairs ++ play.file ∷ []
-  pub start : IsAdded name_of taken.start (starts pairs) play.pairs.start
-  pub limit : IsAdded limit_of taken.limit (limits pairs) play.pairs.limit
-  pub file : is_name_word play.file ≡ true
+record IsLine (kind : CommandKind) (taken : List Pair) (words : List (List ℕ)) (command : Command) : Type 0 where
+  pub more : List Pair
+  pub split : words ≡ spelled_pairs more ++ command.names
+  pub kind_is : command.kind ≡ kind
+  pub pairs_are : command.pairs ≡ taken ++ more
+  pub taken_are : AreTaken kind command.pairs
+  pub names : are_names_of kind command.names ≡ true
 
-start-first : (taken more : Pairs) (word : List ℕ) (words : List (List ℕ)) (play : Play) → with_start taken word ≡ Some more →
-    IsLine more words play → IsLine taken (codes "--start" ∷ word ∷ words) play
-start-first taken more word words play e line = by_test (is_none taken.start) (is_name_word word) refl refl
+append-nil : {A : Type 0} (xs : List A) → xs ++ [] ≡ xs
+append-nil [] = refl
+append-nil (x ∷ xs) = ap (λ l. x ∷ l) (append-nil xs)
+
+names-line : (kind : CommandKind) (taken : List Pair) (words : List (List ℕ)) (command : Command) → AreTaken kind taken →
+    with_names kind taken words ≡ Some command → IsLine kind taken words command
+names-line kind taken words command are e = by_test (are_names_of kind words) refl
   where
-    by_start : (o : Option (List ℕ)) → is_none o ≡ true → o ≡ None
-    by_start None is = refl
-    by_start (Some s) is = absurd cc
-
-    by_test : (a b : Bool) → is_none taken.start ≡ a → is_name_word word ≡ b → IsLine taken (codes "--start" ∷ word ∷ words) play
-    by_test true true free is =
-        let h = rw (free, is) at e in
-        let same : more ≡ record { start = Some word; limit = taken.limit } = cc in
-        let start : IsAdded name_of (Some word) (starts line.pairs) play.pairs.start
-        = subst (λ (p : Pairs). IsAdded name_of p.start (starts line.pairs) play.pairs.start) same line.start in
-        let limit : IsAdded limit_of taken.limit (limits line.pairs) play.pairs.limit
-        = subst (λ (p : Pairs). IsAdded limit_of p.limit (limits line.pairs) play.pairs.limit) same line.limit in
-        let value : name_of word ≡ Some word = rw is refl in
-        record {
-          pairs = Start word ∷ line.pairs;
-          split = ap (λ (l : List (List ℕ)). codes "--start" ∷ word ∷ l) line.split;
-          start = added-first name_of taken.start word (starts line.pairs) play.pairs.start word (by_start taken.start free) value start;
-          limit = limit;
-          file = line.file;
-        }
-    by_test true false free is = let h = rw (free, is) at e in absurd cc
-    by_test false b free is = let h = rw free at e in absurd cc
-
-limit-first : (taken more : Pairs) (word : List ℕ) (words : List (List ℕ)) (play : Play) → with_limit taken word ≡ Some more →
-    IsLine more words play → IsLine taken (codes "--limit" ∷ word ∷ words) play
-limit-first taken more word words play e line = by_test taken.limit (limit_of word) refl refl
-  where
-    by_test : (o v : Option ℕ) → taken.limit ≡ o → limit_of word ≡ v → IsLine taken (codes "--limit" ∷ word ∷ words) play
-    by_test None (Some n) free is =
-        let h = rw (free, is) at e in
-        let same : more ≡ record { start = taken.start; limit = Some n } = cc in
-        let start : IsAdded name_of taken.start (starts line.pairs) play.pairs.start
-        = subst (λ (p : Pairs). IsAdded name_of p.start (starts line.pairs) play.pairs.start) same line.start in
-        let limit : IsAdded limit_of (Some n) (limits line.pairs) play.pairs.limit
-        = subst (λ (p : Pairs). IsAdded limit_of p.limit (limits line.pairs) play.pairs.limit) same line.limit in
-        record {
-          pairs = Limit word ∷ line.pairs;
-          split = ap (λ (l : List (List ℕ)). codes "--limit" ∷ word ∷ l) line.split;
-          start = start;
-          limit = added-first limit_of taken.limit word (limits line.pairs) play.pairs.limit n free is limit;
-          file = line.file;
-        }
-    by_test None None free is = let h = rw (free, is) at e in absurd cc
-    by_test (Some m) v free is = let h = rw free at e in absurd cc
-
-pair-first : (taken more : Pairs) (name word : List ℕ) (words : List (List ℕ)) (play : Play) → with_pair taken name word ≡ Some more →
-    IsLine more words play → IsLine taken (name ∷ word ∷ words) play
-pair-first taken more name word words play e line = by_test (bytes_eq name (codes "--start")) (bytes_eq name (codes "--limit")) refl refl
-  where
-    by_test : (a b : Bool) → bytes_eq name (codes "--start") ≡ a → bytes_eq name (codes "--limit") ≡ b → IsLine taken (name ∷ word ∷ words) play
-    by_test true b is other =
-        let same = (bytes_eq-Decides name (codes "--start")).0 is in
-        subst (λ (n : List ℕ). IsLine taken (n ∷ word ∷ words) play) (sym same) (start-first taken more word words play (rw is at e) line)
-    by_test false true is other =
-        let same = (bytes_eq-Decides name (codes "--limit")).0 other in
-        subst (λ (n : List ℕ). IsLine taken (n ∷ word ∷ words) play) (sym same) (limit-first taken more word words play (rw (is, other) at e) line)
-    by_test false false is other = let h = rw (is, other) at e in absurd cc
-
-from_given : (Goal : Type 0) (words : List (List ℕ)) (play : Play) (o : Option Pairs) →
-    ((more : Pairs) → o ≡ Some more → play_of more words ≡ Some play → Goal) →
-    given o (λ more. play_of more words) ≡ Some play → Goal
-from_given Goal words play None later e = absurd cc
-from_given Goal words play (Some more) later e = later more refl e
-
-line-only : (words : List (List ℕ)) (taken : Pairs) (play : Play) → play_of taken words ≡ Some play → IsLine taken words play
-line-only [] taken play e = absurd cc
-line-only (file ∷ []) taken play e = by_test (is_name_word file) refl
-  where
-    by_test : (t : Bool) → is_name_word file ≡ t → IsLine taken (file ∷ []) play
+    by_test : (t : Bool) → are_names_of kind words ≡ t → IsLine kind taken words command
     by_test true is =
         let h = rw is at e in
-        let same : record { pairs = taken; file = file } ≡ play = cc in
-        subst (λ (p : Play). IsLine taken (file ∷ []) p) same (record {
-          pairs = [];
+        let same : record { kind = kind; pairs = taken; names = words } ≡ command = cc in
+        subst (λ (c : Command). IsLine kind taken words c) same (record {
+          more = [];
           split = refl;
-          start = added-none name_of taken.start;
-          limit = added-none limit_of taken.limit;
-          file = is;
+          kind_is = refl;
+          pairs_are = sym (append-nil taken);
+          taken_are = are;
+          names = is;
         })
     by_test false is = let h = rw is at e in absurd cc
-line-only (name ∷ word ∷ words) taken play e =
-    from_given (IsLine taken (name ∷ word ∷ words) play) words play (with_pair taken name word)
-    (λ more is later. pair-first taken more name word words play is (line-only words more play later)) e
 
-pub command-only : (words : List (List ℕ)) (play : Play) → command_of words ≡ Some play → CommandLine words play
-command-only [] play e = absurd cc
-command-only (word ∷ words) play e = by_test (bytes_eq word (codes "play")) refl
+free-is : (o : Option (List ℕ)) → is_none o ≡ true → o ≡ None
+free-is None is = refl
+free-is (Some s) is = absurd cc
+
+-- a pair that was put behind those that were taken
+record IsPut (kind : CommandKind) (taken : List Pair) (row : Row) (value : List ℕ) (more : List Pair) : Type 0 where
+  pub is : more ≡ taken ++ record { name = row.name; value = value } ∷ []
+  pub taken_are : AreTaken kind more
+
+pair-put : (kind : CommandKind) (taken more : List Pair) (row : Row) (value : List ℕ) → AreTaken kind taken →
+    row_in (dashed row.name) (rows_of kind) ≡ Some row → with_pair taken row value ≡ Some more → IsPut kind taken row value more
+pair-put kind taken more row value are row_is e = by_test (is_none (value_of row.name taken)) (fits_form row.form value) refl refl
   where
-    by_test : (t : Bool) → bytes_eq word (codes "play") ≡ t → CommandLine (word ∷ words) play
-    by_test true is =
-        let line = line-only words no_pairs play (rw is at e) in
-        let same : word ≡ codes "play" = (bytes_eq-Decides word (codes "play")).0 is in
-        record {
-          pairs = line.pairs;
-          split = ap (λ (w : List ℕ). w ∷ words) same ∙ ap (λ (l : List (List ℕ)). codes "play" ∷ l) line.split;
-          start = line.start;
-          limit = line.limit;
-          file = line.file;
-        }
-    by_test false is = let h = rw is at e in absurd cc
+    pair : Pair
+    pair = record { name = row.name; value = value }
 
--- a word that has a name is that name
-name-is : (word a : List ℕ) → name_of word ≡ Some a → (is_name_word word ≡ true) × (word ≡ a)
-name-is word a e = by_test (is_name_word word) refl
+    by_test : (a b : Bool) → is_none (value_of row.name taken) ≡ a → fits_form row.form value ≡ b → IsPut kind taken row value more
+    by_test true true free fits =
+        let h = rw (free, fits) at e in
+        let same : taken ++ record { name = row.name; value = value } ∷ [] ≡ more = cc in
+        let of_kind : IsPairOf kind (record { name = row.name; value = value }) = rw row_is fits in
+        subst (λ (l : List Pair). IsPut kind taken row value l) same (record {
+          is = refl;
+          taken_are = record {
+            pairs = All-append (IsPairOf kind) taken _ are.pairs (All-cons (IsPairOf kind) _ [] of_kind (All-nil (IsPairOf kind)));
+            once = Once-push taken _ are.once (free-is (value_of row.name taken) free);
+          };
+        })
+    by_test true false free fits = let h = rw (free, fits) at e in absurd cc
+    by_test false b free fits = let h = rw free at e in absurd cc
+
+pair-line : (kind : CommandKind) (taken more : List Pair) (row : Row) (word value : List ℕ) (words : List (List ℕ)) (command : Command) →
+    word ≡ dashed row.name → IsPut kind taken row value more → IsLine kind more words command →
+    IsLine kind taken (word ∷ value ∷ words) command
+pair-line kind taken more row word value words command spells put line = record {
+  more = record { name = row.name; value = value } ∷ line.more;
+  split = ap (λ (w : List ℕ). w ∷ value ∷ words) spells ∙ ap (λ (l : List (List ℕ)). dashed row.name ∷ value ∷ l) line.split;
+  kind_is = line.kind_is;
+  pairs_are = line.pairs_are ∙ ap (λ (l : List Pair). l ++ line.more) put.is
+      ∙ append_assoc taken (record { name = row.name; value = value } ∷ []) line.more;
+  taken_are = line.taken_are;
+  names = line.names;
+}
+
+from_given : {A B : Type 0} (Goal : Type 0) (o : Option A) (f : A → Option B) (b : B) →
+    ((a : A) → o ≡ Some a → f a ≡ Some b → Goal) → given o f ≡ Some b → Goal
+from_given Goal None f b later e = absurd cc
+from_given Goal (Some a) f b later e = later a refl e
+
+from_row : {B : Type 0} (Goal : Type 0) (o : Option Row) (missing : Option B) (f : Row → Option B) (b : B) →
+    (missing ≡ Some b → Goal) → ((row : Row) → o ≡ Some row → f row ≡ Some b → Goal) → at_row o missing f ≡ Some b → Goal
+from_row Goal None missing f b otherwise later e = otherwise e
+from_row Goal (Some row) missing f b otherwise later e = later row refl e
+
+line-only : (kind : CommandKind) (words : List (List ℕ)) (taken : List Pair) (command : Command) → AreTaken kind taken →
+    found_behind kind taken words ≡ Some command → IsLine kind taken words command
+line-only kind [] taken command are e = names-line kind taken [] command are e
+line-only kind (word ∷ []) taken command are e = names-line kind taken (word ∷ []) command are e
+line-only kind (word ∷ value ∷ words) taken command are e =
+    from_row (IsLine kind taken (word ∷ value ∷ words) command) (row_in word (rows_of kind)) (with_names kind taken (word ∷ value ∷ words))
+    (λ row. given (with_pair taken row value) (λ more. found_behind kind more words)) command
+    (λ is. names-line kind taken (word ∷ value ∷ words) command are is)
+    (λ row is found.
+    from_given (IsLine kind taken (word ∷ value ∷ words) command) (with_pair taken row value) (λ more. found_behind kind more words) command
+    (λ more pair later.
+    let spells = row_in-name word (rows_of kind) row is in
+    let put = pair-put kind taken more row value are (subst (λ (w : List ℕ). row_in w (rows_of kind) ≡ Some row) spells is) pair in
+    pair-line kind taken more row word value words command spells put (line-only kind words more command put.taken_are later))
+    found) e
+
+none-taken : (kind : CommandKind) → AreTaken kind []
+none-taken kind = record { pairs = All-nil (IsPairOf kind); once = tt }
+
+kind_of-word : (word : List ℕ) (kind : CommandKind) → kind_of word ≡ Some kind → word ≡ word_of kind
+kind_of-word word kind e = by_test (bytes_eq word (word_of Play)) (bytes_eq word (word_of Format)) refl refl
   where
-    by_test : (t : Bool) → is_name_word word ≡ t → (is_name_word word ≡ true) × (word ≡ a)
-    by_test true is = let h = rw is at e in (is, cc)
-    by_test false is = let h = rw is at e in absurd cc
+    by_test : (a b : Bool) → bytes_eq word (word_of Play) ≡ a → bytes_eq word (word_of Format) ≡ b → word ≡ word_of kind
+    by_test true b play format =
+        let h = rw play at e in
+        let same : Play ≡ kind = cc in subst (λ (k : CommandKind). word ≡ word_of k) same ((bytes_eq-Decides word (word_of Play)).0 play)
+    by_test false true play format =
+        let h = rw (play, format) at e in
+        let same : Format ≡ kind = cc in subst (λ (k : CommandKind). word ≡ word_of k) same ((bytes_eq-Decides word (word_of Format)).0 format)
+    by_test false false play format = let h = rw (play, format) at e in absurd cc
 
-start-taken : (taken : Pairs) (word a : List ℕ) → taken.start ≡ None → name_of word ≡ Some a →
-    with_pair taken (codes "--start") word ≡ Some (record { start = Some a; limit = taken.limit })
-start-taken taken word a free e =
-    let is = name-is word a e in
-    let value : with_pair taken (codes "--start") word ≡ Some (record { start = Some word; limit = taken.limit }) = rw (free, is.0) refl in
-    value ∙ ap (λ (w : List ℕ). Some (record { start = Some w; limit = taken.limit })) is.1
+of_word : (kind : CommandKind) → kind_of (word_of kind) ≡ Some kind
+of_word Play = refl
+of_word Format = refl
 
-limit-taken : (taken : Pairs) (word : List ℕ) (n : ℕ) → taken.limit ≡ None → limit_of word ≡ Some n →
-    with_pair taken (codes "--limit") word ≡ Some (record { start = taken.start; limit = Some n })
-limit-taken taken word n free e = rw (free, e) refl
+line-command : (kind : CommandKind) (word : List ℕ) (words : List (List ℕ)) (command : Command) → word ≡ word_of kind →
+    IsLine kind [] words command → CommandLine (word ∷ words) command
+line-command kind word words command spells line = record {
+  split = ap (λ (w : List ℕ). w ∷ words) (spells ∙ ap word_of (sym line.kind_is))
+      ∙ ap (λ (l : List (List ℕ)). word_of command.kind ∷ l) (line.split ∙ ap (λ (p : List Pair). spelled_pairs p ++ command.names) (sym line.pairs_are));
+  pairs = subst (λ (k : CommandKind). All (IsPairOf k) command.pairs) (sym line.kind_is) line.taken_are.pairs;
+  once = line.taken_are.once;
+  names = subst (λ (k : CommandKind). are_names_of k command.names ≡ true) (sym line.kind_is) line.names;
+}
 
-line-found : (pairs : List Pair) (taken : Pairs) (play : Play) → IsAdded name_of taken.start (starts pairs) play.pairs.start →
-    IsAdded limit_of taken.limit (limits pairs) play.pairs.limit → is_name_word play.file ≡ true →
-    play_of taken (spelled pairs ++ play.file ∷ []) ≡ Some play
-line-found [] taken play start limit file =
-    let start_is = none-added name_of taken.start play.pairs.start start in
-    let limit_is = none-added limit_of taken.limit play.pairs.limit limit in
-    let value : play_of taken (play.file ∷ []) ≡ Some (record { pairs = taken; file = play.file }) = rw file refl in
-    value ∙ ap (λ (s : Option (List ℕ)). Some (record { pairs = record { start = s; limit = taken.limit }; file = play.file })) start_is
-    ∙ ap (λ (l : Option ℕ). Some (record { pairs = record { start = play.pairs.start; limit = l }; file = play.file })) limit_is
-line-found (Start word ∷ pairs) taken play start limit file =
-    let first = first-added name_of taken.start word (starts pairs) play.pairs.start start in
-    let more : Pairs = record { start = Some first.first; limit = taken.limit } in
-    ap (λ (o : Option Pairs). given o (λ m. play_of m (spelled pairs ++ play.file ∷ []))) (start-taken taken word first.first first.free first.is)
-    ∙ line-found pairs more play first.rest limit file
-line-found (Limit word ∷ pairs) taken play start limit file =
-    let first = first-added limit_of taken.limit word (limits pairs) play.pairs.limit limit in
-    let more : Pairs = record { start = taken.start; limit = Some first.first } in
-    ap (λ (o : Option Pairs). given o (λ m. play_of m (spelled pairs ++ play.file ∷ []))) (limit-taken taken word first.first first.free first.is)
-    ∙ line-found pairs more play start first.rest file
+pub command-only : (words : List (List ℕ)) (command : Command) → command_of words ≡ Some command → CommandLine words command
+command-only [] command e = absurd cc
+command-only (word ∷ words) command e =
+    from_given (CommandLine (word ∷ words) command) (kind_of word) (λ kind. found_behind kind [] words) command
+    (λ kind is found. line-command kind word words command (kind_of-word word kind is) (line-only kind words [] command (none-taken kind) found)) e
 
-pub command-found : (words : List (List ℕ)) (play : Play) → CommandLine words play → command_of words ≡ Some play
-command-found words play is = ap command_of is.split ∙ line-found is.pairs no_pairs play is.start is.limit is.file
+-- names are found where no pair is left
 
-pub one_command : (words : List (List ℕ)) (a b : Play) → CommandLine words a → CommandLine words b → a ≡ b
+names-first : (kind : CommandKind) (word : List ℕ) (words : List (List ℕ)) → are_names_of kind (word ∷ words) ≡ true → is_name_word word ≡ true
+names-first kind word words is = by_test (is_count_of kind (length (word ∷ words))) (is_name_word word) refl refl
+  where
+    by_test : (a b : Bool) → is_count_of kind (length (word ∷ words)) ≡ a → is_name_word word ≡ b → is_name_word word ≡ true
+    by_test true true count name = name
+    by_test true false count name = let h = rw (count, name) at is in absurd cc
+    by_test false b count name = let h = rw count at is in absurd cc
+
+names-found : (kind : CommandKind) (taken : List Pair) (names : List (List ℕ)) → are_names_of kind names ≡ true →
+    found_behind kind taken names ≡ Some (record { kind = kind; pairs = taken; names = names })
+names-found kind taken [] is = rw is refl
+names-found kind taken (name ∷ []) is = rw is refl
+names-found kind taken (name ∷ other ∷ names) is =
+    let none = row_in-no_name name (rows_of kind) (names-first kind name (other ∷ names) is) in rw none (rw is refl)
+
+row-found : (o : Option Row) (value : List ℕ) → fits_row o value ≡ true → (row : Row) × (o ≡ Some row) × (fits_form row.form value ≡ true)
+row-found None value is = absurd cc
+row-found (Some row) value is = (row, refl, is)
+
+pair-taken : (kind : CommandKind) (taken : List Pair) (row : Row) (pair : Pair) → dashed pair.name ≡ dashed row.name →
+    value_of pair.name taken ≡ None → fits_form row.form pair.value ≡ true → with_pair taken row pair.value ≡ Some (taken ++ pair ∷ [])
+pair-taken kind taken row pair spells free fits =
+    let same : pair.name ≡ row.name = cc in
+    let none : value_of row.name taken ≡ None = subst (λ (n : List ℕ). value_of n taken ≡ None) same free in
+    let value : with_pair taken row pair.value ≡ Some (taken ++ record { name = row.name; value = pair.value } ∷ []) = rw (none, fits) refl in
+    value ∙ ap (λ (n : List ℕ). Some (taken ++ record { name = n; value = pair.value } ∷ [])) (sym same)
+
+line-found : (kind : CommandKind) (more taken : List Pair) (names : List (List ℕ)) → All (IsPairOf kind) more → Once (taken ++ more) →
+    are_names_of kind names ≡ true →
+    found_behind kind taken (spelled_pairs more ++ names) ≡ Some (record { kind = kind; pairs = taken ++ more; names = names })
+line-found kind [] taken names fit once is =
+    names-found kind taken names is
+    ∙ ap (λ (p : List Pair). Some (record { kind = kind; pairs = p; names = names })) (sym (append-nil taken))
+line-found kind (pair ∷ more) taken names fit once is =
+    let row = row-found (row_in (dashed pair.name) (rows_of kind)) pair.value (All-head (IsPairOf kind) pair more fit) in
+    let spells = row_in-name (dashed pair.name) (rows_of kind) row.0 row.1 in
+    let put = pair-taken kind taken row.0 pair spells (Once-free taken pair more once) row.2 in
+    let split : (taken ++ pair ∷ []) ++ more ≡ taken ++ pair ∷ more = append_assoc taken (pair ∷ []) more in
+    let later = line-found kind more (taken ++ pair ∷ []) names (All-tail (IsPairOf kind) pair more fit) (subst Once (sym split) once) is in
+    ap (λ (o : Option Row). at_row o (with_names kind taken (dashed pair.name ∷ pair.value ∷ (spelled_pairs more ++ names)))
+    (λ r. given (with_pair taken r pair.value) (λ m. found_behind kind m (spelled_pairs more ++ names)))) row.1
+    ∙ ap (λ (o : Option (List Pair)). given o (λ m. found_behind kind m (spelled_pairs more ++ names))) put
+    ∙ later
+    ∙ ap (λ (p : List Pair). Some (record { kind = kind; pairs = p; names = names })) split
+
+pub command-found : (words : List (List ℕ)) (command : Command) → CommandLine words command → command_of words ≡ Some command
+command-found words command line =
+    ap command_of line.split
+    ∙ ap (λ (o : Option CommandKind). given o (λ kind. found_behind kind [] (spelled_pairs command.pairs ++ command.names))) (of_word command.kind)
+    ∙ line-found command.kind command.pairs [] command.names line.pairs line.once line.names
+
+pub one_command : (words : List (List ℕ)) (a b : Command) → CommandLine words a → CommandLine words b → a ≡ b
 one_command words a b one two =
     let first = command-found words a one in
     let second = command-found words b two in cc
 
-pub no_command : (words : List (List ℕ)) → command_of words ≡ None → (play : Play) → CommandLine words play → ⊥
-no_command words none play is = let found = command-found words play is in absurd cc
+pub no_command : (words : List (List ℕ)) → command_of words ≡ None → (command : Command) → CommandLine words command → ⊥
+no_command words none command line = let found = command-found words command line in absurd cc
 
-pub no_command-only : (words : List (List ℕ)) → ((play : Play) → CommandLine words play → ⊥) → command_of words ≡ None
+pub no_command-only : (words : List (List ℕ)) → ((command : Command) → CommandLine words command → ⊥) → command_of words ≡ None
 no_command-only words none = by_found (command_of words) refl
   where
-    by_found : (o : Option Play) → command_of words ≡ o → command_of words ≡ None
+    by_found : (o : Option Command) → command_of words ≡ o → command_of words ≡ None
     by_found None is = is
-    by_found (Some play) is = absurd (none play (command-only words play is))
+    by_found (Some command) is = absurd (none command (command-only words command is))
+
+-- what was found is what the words say
+pub found-Says : (words : List (List ℕ)) (o : Option Command) → o ≡ command_of words → WordsSay words o
+found-Says words None is = no_command words (sym is)
+found-Says words (Some command) is = command-only words command (sym is)
+
+pub read-Says : (words : List (List ℕ)) (r : Result (Option Command) Memory) → IfOk r (λ o. o ≡ command_of words) → IfOk r (WordsSay words)
+read-Says words (Ok o) is = found-Says words o is
+read-Says words (Err error) is = tt
+
+-- the parts of a command that was found are one
+pub found-parts : (kind : CommandKind) (words : List (List ℕ)) (pairs : List Pair) (names : List (List ℕ)) →
+    found_behind kind pairs names ≡ found_behind kind [] words → found_behind kind pairs names ≡ with_names kind pairs names →
+    are_names_of kind names ≡ true →
+    CommandLine (spelled (record { kind = kind; pairs = pairs; names = names })) (record { kind = kind; pairs = pairs; names = names })
+found-parts kind words pairs names so_far left are =
+    let command : Command = record { kind = kind; pairs = pairs; names = names } in
+    let named : with_names kind pairs names ≡ Some command = rw are refl in
+    let line = line-only kind words [] command (none-taken kind) (sym so_far ∙ left ∙ named) in
+    record { split = refl; pairs = line.taken_are.pairs; once = line.taken_are.once; names = are }

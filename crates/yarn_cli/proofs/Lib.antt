@@ -1,5 +1,6 @@
 pub mod CommandLemmas
 pub mod CommandLineLemmas
+pub mod CutLemmas
+pub mod PairsLemmas
 pub mod ReadLemmas
-pub mod RunLemmas
 pub mod WordsLemmas

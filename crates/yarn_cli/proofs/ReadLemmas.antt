@@ -1,49 +1,172 @@
--- What a read tells of the outcome of a file.
-use Rattle.std.proofs.Common.{◌≡◌, ℕ, ◌+◌, ◌<◌, ◌≤◌, List, length, take, Option, Some, None, option_map, IfSome, nat_lt, Bool, true, false, refl, sym, ap, ◌∙◌, arith, length-take, take_all, subst}
-use Rattle.std.proofs.lemmas.Bool.Decides.{nat_tests}
+-- What reads tell of the sources under names.
+use Rattle.std.proofs.Common.{◌≡◌, ℕ, suc, ◌+◌, ◌≤◌, ◌<◌, List, [], ◌∷◌, ◌++◌, length, map, take, drop, get_or, Option, Some, None, IfSome, option_map, refl, sym, ap, subst, ◌∙◌, arith, take-append-drop, drop-cons}
+use Rattle.std.proofs.Math.Seq.{take-suc}
+use Rattle.yarn_base.specs.declared.SourceFile.{SourceFile}
+use Rattle.yarn_base.specs.Causes.{Rose}
 use Rattle.yarn_base.specs.Outside.{Named, GivesFile, WritesPart}
-use Rattle.yarn_tree.specs.declared.refusal.RefusalKind.TheVariants.{NotBuilt}
-use Rattle.yarn_tree.specs.Reading.{Refuses, reading_of}
+use Rattle.yarn_tree.specs.Reading.{reading_of, file_reading_of}
 use Rattle.yarn_cli.specs.declared.message.Ended.{Ended}
-use Rattle.yarn_cli.specs.Command.{Play}
+use Rattle.yarn_cli.specs.Command.{Command}
 use Rattle.yarn_cli.specs.Ended.{GivesSoFar}
-use Rattle.yarn_cli.specs.Outcome.{Outcome, of_play, of_reading}
+use Rattle.yarn_cli.specs.Messages.{name_at}
+use Rattle.yarn_cli.specs.Outcome.{Outcome, of_play, of_project, of_sources, of_file, of_format, of_text, printed}
+use Rattle.yarn_cli.specs.Read.{cut, IsSource, IsAdded, AreCut, AreSources}
+use Rattle.yarn_cli.proofs.CutLemmas.{reading-cut, file_reading-cut}
+use Rattle.yarn_cli.specs.Sources.{Sources, Found, Missing, source_of, with_source, sources_of, IsFound, IsUnread}
 
-too_long : (bytes : List ℕ) → 4194304 < length bytes → reading_of bytes ≡ Refuses NotBuilt 0
-unfolding reading_of
-too_long bytes lt = let is : nat_lt 4194304 (length bytes) ≡ true = grind (arith, nat_tests) in rw is refl
+of_bytes : (name bytes : List ℕ) (o : Option (List ℕ)) → option_map (take (4194304 + 1)) o ≡ Some bytes →
+    option_map (λ all. cut (source_of name all)) o ≡ Some (record { name = name; bytes = bytes })
+of_bytes name bytes None e = absurd cc
+of_bytes name bytes (Some all) e =
+    let is : take (4194304 + 1) all ≡ bytes = cc in ap (λ (b : List ℕ). Some (record { name = name; bytes = b })) is
 
--- the first bytes of a file tell how the whole is read
-reading_of-take : (all bytes : List ℕ) → take (4194304 + 1) all ≡ bytes → reading_of all ≡ reading_of bytes
-reading_of-take all bytes e = by_test (nat_lt 4194304 (length bytes)) refl
+source-of_bytes : (told : Option Named) (name bytes : List ℕ) → GivesFile told name 4194304 bytes →
+    IsSource told name (record { name = name; bytes = bytes })
+source-of_bytes None name bytes gives = tt
+source-of_bytes (Some named) name bytes gives = of_bytes name bytes (named name) gives
+
+-- the bytes that were read, under a copy of the name
+pub source-is : (told : Option Named) (name bytes copy kept : List ℕ) → GivesFile told name 4194304 bytes → copy ≡ name → kept ≡ bytes →
+    IsSource told name (record { name = copy; bytes = kept })
+source-is told name bytes copy kept gives copy_is kept_is =
+    subst (λ (n : List ℕ). IsSource told name (record { name = n; bytes = kept })) (sym copy_is)
+    (subst (λ (b : List ℕ). IsSource told name (record { name = name; bytes = b })) (sym kept_is) (source-of_bytes told name bytes gives))
+
+-- one more file behind those that are found
+
+one-found : (name : List ℕ) (o : Option (List ℕ)) (file : SourceFile) → option_map (λ all. cut (source_of name all)) o ≡ Some file →
+    AreCut (with_source name o (Found [])) (file ∷ [])
+one-found name None file e = absurd cc
+one-found name (Some bytes) file e =
+    let is : file ≡ cut (source_of name bytes) = cc in
+    record { whole = source_of name bytes ∷ []; found = refl; are = ap (λ (f : SourceFile). f ∷ []) is }
+
+more-found : (name : List ℕ) (o : Option (List ℕ)) (rest longer : Sources) (files : List SourceFile) (file : SourceFile) →
+    ((others : List SourceFile) → AreCut rest others → AreCut longer (others ++ file ∷ [])) → AreCut (with_source name o rest) files →
+    AreCut (with_source name o longer) (files ++ file ∷ [])
+more-found name None rest longer files file later are = let h = are.found in absurd cc
+more-found name (Some bytes) (Missing other) longer files file later are = let h = are.found in absurd cc
+more-found name (Some bytes) (Found others) longer files file later are =
+    let e = are.found in
+    let is : are.whole ≡ source_of name bytes ∷ others = cc in
+    let more = later (map cut others) (record { whole = others; found = refl; are = refl }) in
+    record {
+      whole = source_of name bytes ∷ more.whole;
+      found = ap (with_source name (Some bytes)) more.found;
+      are = ap (λ (l : List SourceFile). l ++ file ∷ []) (are.are ∙ ap (map cut) is)
+        ∙ ap (λ (l : List SourceFile). cut (source_of name bytes) ∷ l) more.are;
+    }
+
+sources_of-push : (named : Named) (names : List (List ℕ)) (name : List ℕ) (files : List SourceFile) (file : SourceFile) →
+    AreCut (sources_of named names) files → option_map (λ all. cut (source_of name all)) (named name) ≡ Some file →
+    AreCut (sources_of named (names ++ name ∷ [])) (files ++ file ∷ [])
+sources_of-push named [] name files file are is =
+    let e = are.found in
+    let none : are.whole ≡ [] = cc in
+    let empty : files ≡ [] = are.are ∙ ap (map cut) none in
+    subst (λ (l : List SourceFile). AreCut (with_source name (named name) (Found [])) (l ++ file ∷ [])) (sym empty) (one-found name (named name) file is)
+sources_of-push named (first ∷ names) name files file are is =
+    more-found first (named first) (sources_of named names) (sources_of named (names ++ name ∷ [])) files file
+    (λ others found. sources_of-push named names name others file found is) are
+
+added-is : (told : Option Named) (names : List (List ℕ)) (name : List ℕ) (old new : List SourceFile) → AreSources told names old →
+    IsAdded told name old new → AreSources told (names ++ name ∷ []) new
+added-is None names name old new are added = tt
+added-is (Some named) names name old new are added =
+    subst (λ (l : List SourceFile). AreCut (sources_of named (names ++ name ∷ [])) l) (sym added.is)
+    (sources_of-push named names name old added.file are added.source)
+
+pub sources-step : (told : Option Named) (names : List (List ℕ)) (i : ℕ) (name : List ℕ) (old new : List SourceFile) → i < length names →
+    name ≡ get_or names i name → AreSources told (take i names) old → IsAdded told name old new →
+    AreSources told (take (i + 1) names) new
+sources-step told names i name old new lt is are added =
+    let one : i + 1 ≡ suc i = omega arith in
+    let split : take (i + 1) names ≡ take i names ++ name ∷ []
+    = ap (λ n. take n names) one ∙ take-suc names i name lt ∙ ap (λ (n : List ℕ). take i names ++ n ∷ []) (sym is) in
+    subst (λ (l : List (List ℕ)). AreSources told l new) (sym split) (added-is told (take i names) name old new are added)
+
+-- the name whose read failed
+
+are-found : (told : Option Named) (names : List (List ℕ)) (files : List SourceFile) → AreSources told names files →
+    IfSome told (λ named. IsFound (sources_of named names))
+are-found None names files are = tt
+are-found (Some named) names files are = subst IsFound (sym are.found) tt
+
+pub unread-is : (told : Option Named) (names : List (List ℕ)) (i : ℕ) (name : List ℕ) (files : List SourceFile) (latest : Option (List ℕ)) →
+    i < length names → name ≡ get_or names i name → AreSources told (take i names) files → latest ≡ Some name →
+    IsUnread names told latest name
+unread-is told names i name files latest lt is are last = record {
+  before = take i names;
+  after = drop (suc i) names;
+  split = sym (take-append-drop i names) ∙ ap (λ (l : List (List ℕ)). take i names ++ l)
+      (drop-cons names i name lt ∙ ap (λ (n : List ℕ). n ∷ drop (suc i) names) (sym is));
+  found = are-found told (take i names) files are;
+  is_latest = last;
+}
+
+pub unread-first : (told : Option Named) (names : List (List ℕ)) (name : List ℕ) (latest : Option (List ℕ)) →
+    names ≡ name ∷ drop 1 names → latest ≡ Some name → IsUnread names told latest name
+unread-first told names name latest is last = record {
+  before = [];
+  after = drop 1 names;
+  split = is;
+  found = by_told told;
+  is_latest = last;
+}
   where
-    by_test : (t : Bool) → nat_lt 4194304 (length bytes) ≡ t → reading_of all ≡ reading_of bytes
-    by_test true is =
-        let lt : 4194304 < length bytes = grind (arith, nat_tests) in
-        let longer : 4194304 < length all = omega (arith, length-take (4194304 + 1) all, ap length e) in
-        too_long all longer ∙ sym (too_long bytes lt)
-    by_test false is =
-        let le : length bytes ≤ 4194304 = grind (arith, nat_tests) in
-        let shorter : length all ≤ 4194304 + 1 = omega (arith, length-take (4194304 + 1) all, ap length e) in
-        ap reading_of (sym (take_all (4194304 + 1) all shorter) ∙ e)
+    by_told : (o : Option Named) → IfSome o (λ named. IsFound (sources_of named []))
+    by_told None = tt
+    by_told (Some named) = tt
 
-of_file : (play : Play) (o : Option (List ℕ)) (bytes : List ℕ) → option_map (take (4194304 + 1)) o ≡ Some bytes →
-    of_play play o ≡ of_reading play (reading_of bytes)
-of_file play None bytes e = absurd cc
-of_file play (Some all) bytes e = ap (of_reading play) (reading_of-take all bytes (cc))
+pub Rose-later : (before mid now : ℕ) → before ≤ mid → Rose mid now → Rose before now
+Rose-later before mid now le rose = omega (arith, le, rose)
 
-pub read_exact : (told : Option Named) (play : Play) (name bytes : List ℕ) (ended : Ended) (old new : Option (List ℕ)) →
-    GivesFile told name 4194304 bytes → GivesSoFar (of_reading play (reading_of bytes)) ended old new →
-    IfSome told (λ named. GivesSoFar (of_play play (named name)) ended old new)
-read_exact None play name bytes ended old new gives exact = tt
-read_exact (Some named) play name bytes ended old new gives exact =
-    subst (λ (o : Outcome). GivesSoFar o ended old new) (sym (of_file play (named name) bytes gives)) exact
+-- what is made of the sources is the outcome
 
-pub read_part : (told : Option Named) (play : Play) (name bytes : List ℕ) (old new : Option (List ℕ)) →
-    GivesFile told name 4194304 bytes → WritesPart old new (of_reading play (reading_of bytes)).out →
-    IfSome told (λ named. WritesPart old new (of_play play (named name)).out)
-read_part None play name bytes old new gives part = tt
-read_part (Some named) play name bytes old new gives part =
-    subst (λ (o : Outcome). WritesPart old new o.out) (sym (of_file play (named name) bytes gives)) part
+of_play-cut : (command : Command) (named : Named) (names : List (List ℕ)) (files : List SourceFile) → names ≡ command.names →
+    AreCut (sources_of named names) files → of_play command named ≡ of_project command (reading_of files)
+of_play-cut command named names files is are =
+    ap (λ (n : List (List ℕ)). of_sources command (sources_of named n)) (sym is) ∙ ap (of_sources command) are.found
+    ∙ ap (of_project command) (sym (reading-cut are.whole)) ∙ ap (λ (l : List SourceFile). of_project command (reading_of l)) (sym are.are)
 
-pub ruleset reads = (read_exact, read_part)
+pub play_exact : (told : Option Named) (command : Command) (names : List (List ℕ)) (files : List SourceFile) (ended : Ended) (old new : Option (List ℕ)) →
+    names ≡ command.names → AreSources told names files → GivesSoFar (of_project command (reading_of files)) ended old new →
+    IfSome told (λ named. GivesSoFar (of_play command named) ended old new)
+play_exact None command names files ended old new is are exact = tt
+play_exact (Some named) command names files ended old new is are exact =
+    subst (λ (o : Outcome). GivesSoFar o ended old new) (sym (of_play-cut command named names files is are)) exact
+
+pub play_part : (told : Option Named) (command : Command) (names : List (List ℕ)) (files : List SourceFile) (old new : Option (List ℕ)) →
+    names ≡ command.names → AreSources told names files → WritesPart old new (of_project command (reading_of files)).out →
+    IfSome told (λ named. WritesPart old new (of_play command named).out)
+play_part None command names files old new is are part = tt
+play_part (Some named) command names files old new is are part =
+    subst (λ (o : Outcome). WritesPart old new o.out) (sym (of_play-cut command named names files is are)) part
+
+of_file-cut : (command : Command) (name : List ℕ) (o : Option (List ℕ)) (file : SourceFile) → option_map (λ all. cut (source_of name all)) o ≡ Some file →
+    of_file command name o ≡ of_text command.names (printed (file_reading_of file))
+of_file-cut command name None file e = absurd cc
+of_file-cut command name (Some bytes) file e =
+    let is : cut (source_of name bytes) ≡ file = cc in
+    ap (λ r. of_text command.names (printed r)) (sym (file_reading-cut (source_of name bytes)) ∙ ap file_reading_of is)
+
+of_format-cut : (command : Command) (named : Named) (name : List ℕ) (file : SourceFile) → name ≡ name_at command.names 0 →
+    option_map (λ all. cut (source_of name all)) (named name) ≡ Some file → of_format command named ≡ of_text command.names (printed (file_reading_of file))
+of_format-cut command named name file is source =
+    ap (λ (n : List ℕ). of_file command n (named n)) (sym is) ∙ of_file-cut command name (named name) file source
+
+pub format_exact : (told : Option Named) (command : Command) (name : List ℕ) (file : SourceFile) (ended : Ended) (old new : Option (List ℕ)) →
+    name ≡ name_at command.names 0 → IsSource told name file →
+    GivesSoFar (of_text command.names (printed (file_reading_of file))) ended old new →
+    IfSome told (λ named. GivesSoFar (of_format command named) ended old new)
+format_exact None command name file ended old new is source exact = tt
+format_exact (Some named) command name file ended old new is source exact =
+    subst (λ (o : Outcome). GivesSoFar o ended old new) (sym (of_format-cut command named name file is source)) exact
+
+pub format_part : (told : Option Named) (command : Command) (name : List ℕ) (file : SourceFile) (old new : Option (List ℕ)) →
+    name ≡ name_at command.names 0 → IsSource told name file →
+    WritesPart old new (of_text command.names (printed (file_reading_of file))).out →
+    IfSome told (λ named. WritesPart old new (of_format command named).out)
+format_part None command name file old new is source part = tt
+format_part (Some named) command name file old new is source part =
+    subst (λ (o : Outcome). WritesPart old new o.out) (sym (of_format-cut command named name file is source)) part

@@ -7,7 +7,10 @@ use Rattle.std.specs.declared.string.String.{String}
 use Rattle.yarn_cli.specs.declared.message.Ended.{Ended}
 use Rattle.yarn_cli.specs.declared.status.Status.{Status}
 use Rattle.yarn_cli.specs.declared.status.Status.TheVariants.{OutOfMemory}
+use Rattle.yarn_base.specs.Outside.{Named}
+use Rattle.yarn_cli.specs.Messages.{cannot_read}
 use Rattle.yarn_cli.specs.Outcome.{Outcome}
+use Rattle.yarn_cli.specs.Sources.{IsUnread}
 
 -- the status with its line, or want of memory
 abbrev pub Tells : Status → Result (String Global) AllocError → Ended → Type 0
@@ -18,6 +21,12 @@ Tells status (Err error) ended = ended.status ≡ OutOfMemory
 pub record Says (outcome : Outcome) (ended : Ended) : Type 0 where
   pub status_is : ended.status ≡ outcome.status
   pub err_is : string_bytes ended.line ≡ outcome.err
+
+-- the line names the file that can't be read
+pub record SaysUnread (names : List (List ℕ)) (told : Option Named) (latest : Option (List ℕ)) (ended : Ended) : Type 0 where
+  pub name : List ℕ
+  pub unread : IsUnread names told latest name
+  pub line_is : string_bytes ended.line ≡ cannot_read name
 
 -- and so is what was written
 pub record GivesSoFar (outcome : Outcome) (ended : Ended) (out_old out_new : Option (List ℕ)) : Type 0 where

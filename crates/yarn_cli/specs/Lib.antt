@@ -1,9 +1,12 @@
 pub mod Command
 pub mod CommandLine
 pub mod Ended
+pub mod Found
 pub mod Laws
 pub mod Messages
 pub mod Outcome
+pub mod Read
+pub mod Sources
 pub mod Status
 pub mod View
 pub mod Words

@@ -1,17 +1,27 @@
 -- The line on the error sink (docs/commands.md, Statuses).
-use Rattle.std.specs.Prelude.{ℕ, List, [], ◌∷◌, ◌++◌, codes}
+use Rattle.std.specs.Prelude.{ℕ, List, [], ◌∷◌, ◌++◌, slice_get, codes}
 use Rattle.std.specs.Fmt.{decimal}
+use Rattle.yarn_cli.specs.Command.{or_default}
 use Rattle.yarn_player.specs.Meaning.{Fault}
 use Rattle.yarn_tree.specs.declared.refusal.RefusalKind.{RefusalKind}
-use Rattle.yarn_tree.specs.declared.refusal.RefusalKind.TheVariants.{NotBuilt, BadUtf8, LineTooLong, BadLine, BadStructure, UnknownNode}
+use Rattle.yarn_tree.specs.declared.refusal.RefusalKind.TheVariants.{TooMuch, BadUtf8, LineTooLong, NotBuilt, BadLine, BadStructure, TooMany, BadTitle, DuplicateTitle, UnknownNode, DuplicateLineId}
 
 abbrev pub kind_text : RefusalKind → List ℕ
-kind_text NotBuilt = codes "NotBuilt"
+kind_text TooMuch = codes "TooMuch"
 kind_text BadUtf8 = codes "BadUtf8"
 kind_text LineTooLong = codes "LineTooLong"
+kind_text NotBuilt = codes "NotBuilt"
 kind_text BadLine = codes "BadLine"
 kind_text BadStructure = codes "BadStructure"
+kind_text TooMany = codes "TooMany"
+kind_text BadTitle = codes "BadTitle"
+kind_text DuplicateTitle = codes "DuplicateTitle"
 kind_text UnknownNode = codes "UnknownNode"
+kind_text DuplicateLineId = codes "DuplicateLineId"
+
+-- the name of the file at a place of the list, from 0; no list has a file behind its end
+abbrev pub name_at : List (List ℕ) → ℕ → List ℕ
+name_at names file = or_default [] (slice_get names file)
 
 -- `FILE:LINE: NAME`
 abbrev pub refused : List ℕ → RefusalKind → ℕ → List ℕ

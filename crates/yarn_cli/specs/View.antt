@@ -1,20 +1,18 @@
--- The command that the code found, as one of the definitions.
-use Rattle.std.specs.Prelude.{Option, Some, None}
-use Rattle.std.specs.Option.{option_copied}
-use Rattle.yarn_cli.specs.Command.{Play, Pairs}
-use Rattle.yarn_cli.specs.declared.command.Pairs.{Pairs as PairsFound}
-use Rattle.yarn_cli.specs.declared.command.Play.{Play as PlayFound}
+-- Private values of the code, as the definitions have them.
+use Rattle.std.specs.Prelude.{ℕ, List, Option, Some, None}
+use Rattle.yarn_cli.specs.declared.command.CommandKind.{CommandKind}
+use Rattle.yarn_cli.specs.declared.command.Pair.{Pair}
+use Rattle.yarn_cli.specs.declared.row.Row.{Row as RowFound}
+use Rattle.yarn_cli.specs.Command.{Command}
+use Rattle.yarn_cli.specs.CommandLine.{Row}
 
-abbrev pub pairs_seen : PairsFound → Pairs
-pairs_seen pairs = record { start = option_copied pairs.start; limit = pairs.limit }
+abbrev pub row_seen : RowFound → Row
+row_seen row = record { name = row.name.now; form = row.form }
 
-abbrev pub more_pairs : Option PairsFound → Option Pairs
-more_pairs None = None
-more_pairs (Some pairs) = Some (pairs_seen pairs)
+abbrev pub more_rows : Option RowFound → Option Row
+more_rows None = None
+more_rows (Some row) = Some (row_seen row)
 
-abbrev pub play_found : PlayFound → Play
-play_found play = record { pairs = pairs_seen play.pairs; file = play.file.now }
-
-abbrev pub play_seen : Option PlayFound → Option Play
-play_seen None = None
-play_seen (Some play) = Some (play_found play)
+-- a command of these parts
+abbrev pub made : CommandKind → List Pair → List (List ℕ) → Command
+made kind pairs names = record { kind = kind; pairs = pairs; names = names }

@@ -1,5 +1,5 @@
 -- What single words of a command may stand for (docs/commands.md, Words).
-use Rattle.std.specs.Prelude.{ℕ, ◌+◌, ◌-◌, ◌*◌, List, [], ◌∷◌, length, nat_eq, nat_lt, Bool, false, ◌&&◌, if◌then◌else◌, Option, Some, None}
+use Rattle.std.specs.Prelude.{ℕ, ◌+◌, ◌-◌, ◌*◌, List, [], ◌∷◌, length, nat_eq, nat_lt, nat_le, Bool, false, ◌&&◌, if◌then◌else◌, Option, Some, None}
 use Rattle.std.specs.List.{list_all}
 
 -- a name: it isn't empty, doesn't begin with `-` and has at most 65,536 bytes
@@ -19,8 +19,8 @@ abbrev pub number_behind : ℕ → List ℕ → ℕ
 number_behind n [] = n
 number_behind n (b ∷ digits) = number_behind (n * 10 + (b - 48)) digits
 
--- a limit of events: 1 to 1000000000
-abbrev pub limit_of : List ℕ → Option ℕ
-limit_of word =
-    if is_number word && (nat_lt 0 (number_behind 0 word) && nat_lt (number_behind 0 word) 1000000001)
+-- the number that the word gives, where it is one from `least` to `most`
+abbrev pub number_in : ℕ → ℕ → List ℕ → Option ℕ
+number_in least most word =
+    if is_number word && (nat_le least (number_behind 0 word) && nat_le (number_behind 0 word) most)
     then Some (number_behind 0 word) else None

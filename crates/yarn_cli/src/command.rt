@@ -1,86 +1,219 @@
 //! The command that the words are.
-ghost use Rattle.std.specs.Prelude.{◌≡◌, ◌≤◌, ◌<◌, length, None, MatchOption, IfOk};
-ghost use Rattle.yarn_cli.specs.Command.{no_pairs, with_start, with_limit, with_pair, play_of, command_of, start_of, limit_in};
-ghost use Rattle.yarn_cli.specs.View.{pairs_seen, more_pairs, play_found, play_seen};
+ghost use Rattle.std.specs.Prelude.{◌≡◌, ◌<◌, [], ◌∷◌, ◌++◌, List as Items, drop, length, if◌then◌else◌, Some, None, IfOk, MatchOption};
+ghost use Rattle.std.specs.List.{list_all};
+ghost use Rattle.std.specs.Option.{option_copied};
+ghost use Rattle.yarn_cli.specs.declared.command.Pair.{Pair};
+ghost use Rattle.yarn_cli.specs.Command.{value_of, start_of, limit_of};
+ghost use Rattle.yarn_cli.specs.CommandLine.{are_names_of, is_count_of, row_in, rows_of};
+ghost use Rattle.yarn_cli.specs.Found.{command_of, found_behind, given, with_names, with_pair};
+ghost use Rattle.yarn_cli.specs.Laws.{WordsSay};
+ghost use Rattle.yarn_cli.specs.Messages.{name_at};
+ghost use Rattle.yarn_cli.specs.View.{row_seen};
+ghost use Rattle.yarn_cli.specs.Words.{is_name_word};
 
-use crate::words::{is_name_word_str, limit_in_word};
+use crate::row::{Row, kind_in_word, row_in_word};
+use crate::words::{fits, is_name_word_str, number_in_word};
 use std::alloc::Global;
-use yarn_base::{Memory, Text};
+use std::marker::Model;
+use yarn_base::{List, Memory, Text, Words};
 
-/// The pairs that were given.
-#[derive(Clone, Copy, Debug)]
-pub(crate) struct Pairs<'w> {
-    pub start: Option<&'w Text>,
-    pub limit: Option<u64>,
+/// The commands of this version.
+#[derive(Clone, Copy, Debug, PartialEq, Eq)]
+pub enum CommandKind {
+    Play,
+    Format,
 }
 
-/// `play`: its pairs and its file.
-#[derive(Clone, Copy, Debug)]
-pub(crate) struct Play<'w> {
-    pub pairs: Pairs<'w>,
-    pub file: &'w Text,
+/// A pair that was given: its name without the `--`, and its value.
+#[derive(Debug, Drop)]
+pub(crate) struct Pair {
+    pub name: Text,
+    pub value: Text,
 }
 
-/// The command, where the words are one.
-pub(crate) fn command_in(words: &[Text]) -> Option<Play>
-    ensures { play_seen result ≡ command_of words.now }
+/// A command with its pairs and names, as its words say them (docs/commands.md, Words).
+#[derive(Debug, Drop)]
+pub struct Command {
+    kind: CommandKind,
+    pairs: List<Pair>,
+    names: Words,
+}
+
+impl Model for Command {
+    ghost use Rattle.yarn_cli.specs.Command.{Command};
+    ghost use Rattle.yarn_cli.specs.CommandLine.{CommandLine, spelled};
+    ghost use Rattle.yarn_cli.specs.View.{made};
+
+    ghost Value = { Command };
+
+    ghost view = { λ c. made c.kind c.pairs c.names };
+
+    ghost invariant = { λ c. CommandLine (spelled (made c.kind c.pairs c.names)) (made c.kind c.pairs c.names) };
+}
+
+/// The command that the words are, and `None` where they are none.
+pub fn read_words(alloc: Global, words: &Words) -> Result<Option<Command>, Memory>
+    ensures found { IfOk result (λ found. found ≡ command_of words.now) }
+    ensures says { IfOk result (WordsSay words.now) }
+{
+    find_command(alloc, words.as_slice())
+}
+
+fn find_command(alloc: Global, words: &[Text]) -> Result<Option<Command>, Memory>
+    ensures { IfOk result (λ found. found ≡ command_of words.now) }
 {
     match words {
-        [first, rest @ ..] if first.as_str() == "play" => play_in(rest),
-        _ => None,
+        [word, rest @ ..] => match kind_in_word(word.as_str()) {
+            Some(kind) => read_behind(alloc, kind, rest),
+            None => Ok(None),
+        },
+        [] => Ok(None),
     }
 }
 
-fn play_in(words: &[Text]) -> Option<Play>
-    ensures { play_seen result ≡ play_of no_pairs words.now }
+// The command, whose word was read: pairs, and then names.
+fn read_behind(alloc: Global, kind: CommandKind, words: &[Text]) -> Result<Option<Command>, Memory>
+    ensures { IfOk result (λ found. found ≡ found_behind kind [] words.now) }
 {
-    let mut pairs = Pairs {
-        start: None,
-        limit: None,
-    };
+    let mut pairs = List::new(alloc);
     let mut rest = words;
-    while rest.len() > 1 {
-        let Some((more, after)) = next_pair(pairs, rest) else {
-            return None;
-        };
-        pairs = more;
-        rest = after;
+    while let Some(next) = next_pair(kind, rest) {
+        if !add_pair(alloc, next.row, next.value, &mut pairs)? {
+            return Ok(None);
+        }
+        rest = next.rest;
     }
-    file_in(pairs, rest)
+    if !are_names(kind, rest) {
+        return Ok(None);
+    }
+    let names = copy_words(alloc, rest)?;
+    Ok(Some(Command { kind, pairs, names }))
 }
 
-// The pairs with the next one, and the words behind it.
-fn next_pair<'w>(pairs: Pairs<'w>, words: &'w [Text]) -> Option<(Pairs<'w>, &'w [Text])>
-    requires { 1 < length words.now }
-    ensures { MatchOption result (play_of (pairs_seen pairs.entry) words.now ≡ None)
-        (λ next. (play_of (pairs_seen pairs.entry) words.now ≡ play_of (pairs_seen next.0) next.1.now)
-        × (length next.1.now < length words.now)) }
+// A pair in front of words: its row, its value and the words behind it.
+#[derive(Clone, Copy, Debug)]
+struct Next<'w> {
+    row: Row,
+    value: &'w Text,
+    rest: &'w [Text],
+}
+
+fn next_pair<'w>(kind: CommandKind, words: &'w [Text]) -> Option<Next<'w>>
+    ensures { MatchOption result
+        ((taken : Items Pair) → found_behind kind taken words.now ≡ with_names kind taken words.now)
+        (λ next. ((taken : Items Pair) → found_behind kind taken words.now
+        ≡ given (with_pair taken (row_seen next.row) next.value.now) (λ more. found_behind kind more next.rest.now))
+        × (length next.rest.now < length words.now)) }
 {
-    let [name, word, rest @ ..] = words else {
+    let [word, value, rest @ ..] = words else {
         return None;
     };
-    match pairs.with(name, word) {
-        Some(more) => Some((more, rest)),
+    match row_in_word(kind, word.as_str()) {
+        Some(row) => Some(Next { row, value, rest }),
         None => None,
     }
 }
 
-fn file_in<'w>(pairs: Pairs<'w>, words: &'w [Text]) -> Option<Play<'w>>
-    requires { length words.now ≤ 1 }
-    ensures { play_seen result ≡ play_of (pairs_seen pairs.entry) words.now }
+// Puts the pair last, unless its name was given before or its value may not stand there.
+fn add_pair(alloc: Global, row: Row, value: &Text, pairs: &mut List<Pair>) -> Result<bool, Memory>
+    ensures { IfOk result (λ added. with_pair pairs.old (row_seen row) value.now ≡ (if added then Some pairs.new else None)) }
 {
-    match words.first() {
-        Some(file) if is_name_word_str(file.as_str()) => Some(Play { pairs, file }),
-        _ => None,
+    if value_in(pairs.as_slice(), row.name).is_some() || !fits(row.form, value.as_str()) {
+        return Ok(false);
+    }
+    let name = Text::from_str(alloc, row.name)?;
+    let value = value.copy()?;
+    pairs.push(Pair { name, value }).map_err(|_| Memory)?;
+    Ok(true)
+}
+
+// The value that was given under the name.
+fn value_in<'c>(pairs: &'c [Pair], name: &str) -> Option<&'c Text>
+    ensures { option_copied result ≡ value_of name.now pairs.now }
+{
+    for pair in pairs {
+        if pair.name.as_str() == name {
+            return Some(&pair.value);
+        }
+    }
+    None
+}
+
+fn are_names(kind: CommandKind, words: &[Text]) -> bool
+    ensures { result ≡ are_names_of kind words.now }
+{
+    is_count(kind, words.len()) && all_names(words)
+}
+
+fn all_names(words: &[Text]) -> bool
+    ensures { result ≡ list_all is_name_word words.now }
+{
+    for word in words {
+        if !is_name_word_str(word.as_str()) {
+            return false;
+        }
+    }
+    true
+}
+
+// Whether the command has so many names.
+fn is_count(kind: CommandKind, count: usize) -> bool
+    ensures { result ≡ is_count_of kind count }
+{
+    match kind {
+        CommandKind::Play => 0 < count,
+        CommandKind::Format => count == 1,
     }
 }
 
-impl Play<'_> {
+fn copy_words(alloc: Global, words: &[Text]) -> Result<Words, Memory>
+    ensures { IfOk result (λ copy. copy ≡ words.now) }
+{
+    let mut copy = Words::new(alloc);
+    for word in words {
+        copy.push(word.copy()?).map_err(|_| Memory)?;
+    }
+    Ok(copy)
+}
+
+impl Command {
+    /// Which command it is.
+    pub fn kind(&self) -> CommandKind
+        ensures { result ≡ self.now.kind }
+    {
+        self.kind
+    }
+
+    /// The value that was given under the name, which is written without its `--`.
+    pub fn pair(&self, name: &Text) -> Option<&Text>
+        ensures { option_copied result ≡ value_of name.now self.now.pairs }
+    {
+        value_in(self.pairs.as_slice(), name.as_str())
+    }
+
+    /// The names behind the pairs.
+    pub fn names(&self) -> &Words
+        ensures { result.now ≡ self.now.names }
+    {
+        &self.names
+    }
+
+    /// The first of them; each command has one.
+    pub(crate) fn first_name(&self) -> &Text
+        ensures at { result.now ≡ name_at self.now.names 0 }
+        ensures first { self.now.names ≡ result.now ∷ drop 1 self.now.names }
+    {
+        match self.names.as_slice() {
+            [name, ..] => name,
+            [] => unreachable!(),
+        }
+    }
+
     /// The title of the node to start from.
     pub(crate) fn start(&self, alloc: Global) -> Result<Text, Memory>
-        ensures { IfOk result (λ start. start ≡ start_of (play_found self.now).pairs) }
+        ensures { IfOk result (λ start. start ≡ start_of self.now) }
     {
-        match self.pairs.start {
+        match value_in(self.pairs.as_slice(), "start") {
             Some(start) => start.copy(),
             None => Text::from_str(alloc, "Start"),
         }
@@ -88,50 +221,11 @@ impl Play<'_> {
 
     /// The most events of the run.
     pub(crate) fn limit(&self) -> u64
-        ensures { result ≡ limit_in (play_found self.now).pairs }
+        ensures { result ≡ limit_of self.now }
     {
-        match self.pairs.limit {
-            Some(limit) => limit,
+        match value_in(self.pairs.as_slice(), "limit") {
+            Some(word) => number_in_word(word.as_str(), 1, 1000000000).unwrap_or(100000),
             None => 100000,
-        }
-    }
-}
-
-impl<'w> Pairs<'w> {
-    fn with(self, name: &Text, word: &'w Text) -> Option<Pairs<'w>>
-        ensures { more_pairs result ≡ with_pair (pairs_seen self.entry) name.now word.now }
-    {
-        match name.as_str() {
-            "--start" => self.with_start(word),
-            "--limit" => self.with_limit(word),
-            _ => None,
-        }
-    }
-
-    fn with_start(self, word: &'w Text) -> Option<Pairs<'w>>
-        ensures { more_pairs result ≡ with_start (pairs_seen self.entry) word.now }
-    {
-        if self.start.is_some() || !is_name_word_str(word.as_str()) {
-            return None;
-        }
-        Some(Pairs {
-            start: Some(word),
-            limit: self.limit,
-        })
-    }
-
-    fn with_limit(self, word: &Text) -> Option<Pairs<'w>>
-        ensures { more_pairs result ≡ with_limit (pairs_seen self.entry) word.now }
-    {
-        if self.limit.is_some() {
-            return None;
-        }
-        match limit_in_word(word.as_str()) {
-            Some(limit) => Some(Pairs {
-                start: self.start,
-                limit: Some(limit),
-            }),
-            None => None,
         }
     }
 }

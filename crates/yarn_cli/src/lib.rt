@@ -2,14 +2,18 @@
 #![tactic(auto)]
 
 mod command;
+mod format;
 pub mod laws;
 mod message;
+mod play;
+mod read;
+mod row;
 mod run;
 mod status;
 mod words;
 
+pub use command::{Command, CommandKind, read_words};
+pub use format::run_format;
+pub use play::run_play;
 pub use run::run_yarn;
 pub use status::Status;
-
-#[cfg(test)]
-mod tests;

@@ -2,13 +2,15 @@
 ghost use Rattle.std.specs.Prelude.{◌≡◌, ◌≤◌, ◌⊎◌, IfOk, string_bytes};
 ghost use Rattle.std.specs.Io.KnownBytes.{append_known};
 ghost use Rattle.yarn_base.specs.Causes.{Rose};
-ghost use Rattle.yarn_cli.specs.Messages.{kind_text};
+ghost use Rattle.yarn_cli.specs.Messages.{cannot_read, cannot_write, kind_text, name_at, refused, usage};
 ghost use Rattle.yarn_cli.specs.Ended.{Tells};
 
 use crate::Status;
 use std::alloc::{AllocError, Global};
-use yarn_base::{IoFault, Sink, write_all};
-use yarn_tree::RefusalKind;
+use yarn_base::{IoFault, Sink, Words, write_all};
+use yarn_tree::{Refusal, RefusalKind};
+
+const USAGE: &str = "usage: yarn check|format|strings|tag|compile|list|play|run|resume|demo\n";
 
 /// The status of a command and its line for the error sink.
 #[derive(Debug, Drop)]
@@ -58,8 +60,8 @@ impl Ended {
     }
 }
 
-// Want of memory stays what is answered, whether or not it can be said.
-fn say_out_of_memory<E: Sink>(err: &mut E) -> Status
+/// Says want of memory, which stays what is answered whether or not it can be said.
+pub(crate) fn say_out_of_memory<E: Sink>(err: &mut E) -> Status
     ensures status { result ≡ Status.OutOfMemory }
     ensures count { E.faults err.old ≤ E.faults err.new }
 {
@@ -68,7 +70,7 @@ fn say_out_of_memory<E: Sink>(err: &mut E) -> Status
 }
 
 // The status where the line isn't said.
-pub(crate) fn unsaid(fault: IoFault) -> Status
+fn unsaid(fault: IoFault) -> Status
     ensures failed { fault ≡ IoFault.Failed → result ≡ Status.WriteFault }
     ensures memory { fault ≡ IoFault.Memory → result ≡ Status.OutOfMemory }
 {
@@ -78,16 +80,83 @@ pub(crate) fn unsaid(fault: IoFault) -> Status
     }
 }
 
-/// The name of a refusal.
-pub(crate) fn kind_name(kind: RefusalKind) -> &'static str
+/// Says how `yarn` is called.
+pub(crate) fn say_usage<E: Sink>(err: &mut E) -> Status
+    ensures said { ((result ≡ Status.Usage) × (E.written err.new ≡ append_known (E.written err.old) usage))
+        ⊎ ((result ≡ Status.WriteFault) × Rose (E.faults err.old) (E.faults err.new))
+        ⊎ (result ≡ Status.OutOfMemory) }
+    ensures count { E.faults err.old ≤ E.faults err.new }
+{
+    match write_all(err, USAGE.as_bytes()) {
+        Ok(()) => Status::Usage,
+        Err(fault) => unsaid(fault),
+    }
+}
+
+/// A file can't be read.
+pub(crate) fn read_failed(alloc: Global, file: &str) -> Ended
+    ensures cases { (result.status ≡ Status.ReadFault) ⊎ (result.status ≡ Status.OutOfMemory) }
+    ensures line { result.status ≡ Status.ReadFault → string_bytes result.line ≡ cannot_read file.now }
+{
+    Ended::with_line(
+        alloc,
+        Status::ReadFault,
+        format!(in alloc; "cannot read {file}\n"),
+    )
+}
+
+/// The output can't be written.
+pub(crate) fn write_failed(alloc: Global) -> Ended
+    ensures cases { (result.status ≡ Status.WriteFault) ⊎ (result.status ≡ Status.OutOfMemory) }
+    ensures line { result.status ≡ Status.WriteFault → string_bytes result.line ≡ cannot_write }
+{
+    Ended::with_line(
+        alloc,
+        Status::WriteFault,
+        String::from_str(alloc, "cannot write output\n"),
+    )
+}
+
+/// A refusal, with the name of its file among these.
+pub(crate) fn refused_at(alloc: Global, names: &Words, refusal: Refusal) -> Ended
+    ensures cases { (result.status ≡ Status.RefusedProject) ⊎ (result.status ≡ Status.OutOfMemory) }
+    ensures line { result.status ≡ Status.RefusedProject →
+        string_bytes result.line ≡ refused (name_at names.now refusal.place.file) refusal.kind refusal.place.line }
+{
+    let file = file_name(names, refusal.place.file);
+    let (line, kind) = (refusal.place.line, kind_name(refusal.kind));
+    Ended::with_line(
+        alloc,
+        Status::RefusedProject,
+        format!(in alloc; "{file}:{line}: {kind}\n"),
+    )
+}
+
+/// The name at that place among these.
+pub(crate) fn file_name(names: &Words, file: u32) -> &str
+    ensures { result.now ≡ name_at names.now file }
+{
+    match names.get(file as usize) {
+        Some(name) => name.as_str(),
+        None => "",
+    }
+}
+
+// The name of a refusal.
+fn kind_name(kind: RefusalKind) -> &'static str
     ensures { result.now ≡ kind_text kind }
 {
     match kind {
-        RefusalKind::NotBuilt => "NotBuilt",
+        RefusalKind::TooMuch => "TooMuch",
         RefusalKind::BadUtf8 => "BadUtf8",
         RefusalKind::LineTooLong => "LineTooLong",
+        RefusalKind::NotBuilt => "NotBuilt",
         RefusalKind::BadLine => "BadLine",
         RefusalKind::BadStructure => "BadStructure",
+        RefusalKind::TooMany => "TooMany",
+        RefusalKind::BadTitle => "BadTitle",
+        RefusalKind::DuplicateTitle => "DuplicateTitle",
         RefusalKind::UnknownNode => "UnknownNode",
+        RefusalKind::DuplicateLineId => "DuplicateLineId",
     }
 }

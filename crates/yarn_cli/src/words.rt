@@ -1,7 +1,8 @@
 //! What single words of a command may stand for.
 ghost use Rattle.std.specs.Prelude.{◌≡◌, ◌<◌, ◌≤◌, MatchOption};
 ghost use Rattle.std.specs.List.{list_all};
-ghost use Rattle.yarn_cli.specs.Words.{is_digit, is_name_word, is_number, limit_of, number_behind};
+ghost use Rattle.yarn_cli.specs.CommandLine.{fits_form};
+ghost use Rattle.yarn_cli.specs.Words.{is_digit, is_name_word, is_number, number_behind, number_in};
 
 /// The most bytes of a name.
 const NAME_LIMIT: usize = 65536;
@@ -9,8 +10,24 @@ const NAME_LIMIT: usize = 65536;
 /// The most digits of a number.
 const DIGIT_LIMIT: usize = 20;
 
-/// The most events of a run.
-const MOST_EVENTS: u64 = 1000000000;
+/// What may be given under a name.
+#[derive(Clone, Copy, Debug, PartialEq, Eq)]
+pub(crate) enum Form {
+    /// A title or a file.
+    Name,
+    /// A number from the first to the second.
+    Number(u64, u64),
+}
+
+/// Whether the word may be given there.
+pub(crate) fn fits(form: Form, word: &str) -> bool
+    ensures { result ≡ fits_form form word.now }
+{
+    match form {
+        Form::Name => is_name_word_str(word),
+        Form::Number(least, most) => number_in_word(word, least, most).is_some(),
+    }
+}
 
 /// Whether the word may stand for a name or a file.
 pub(crate) fn is_name_word_str(word: &str) -> bool
@@ -22,30 +39,31 @@ pub(crate) fn is_name_word_str(word: &str) -> bool
     }
 }
 
-/// The limit of events that the word gives.
-pub(crate) fn limit_in_word(word: &str) -> Option<u64>
-    ensures { result ≡ limit_of word.now }
+/// The number that the word gives, where it is one from `least` to `most`.
+pub(crate) fn number_in_word(word: &str, least: u64, most: u64) -> Option<u64>
+    ensures { result ≡ number_in least most word.now }
 {
     if !is_number_str(word) {
         return None;
     }
-    match number_in(word.as_bytes()) {
-        Some(limit) if limit > 0 => Some(limit),
+    match number_up_to(word.as_bytes(), most) {
+        Some(number) if least <= number => Some(number),
         _ => None,
     }
 }
 
-// The number of digits, where a run may have so many events.
-fn number_in(digits: &[u8]) -> Option<u64>
-    ensures { MatchOption result (1000000000 < number_behind 0 digits.now)
-        (λ n. (n ≡ number_behind 0 digits.now) × (n ≤ 1000000000)) }
+// The number of digits, where it is at most that.
+fn number_up_to(digits: &[u8], most: u64) -> Option<u64>
+    ensures { MatchOption result (most < number_behind 0 digits.now)
+        (λ n. (n ≡ number_behind 0 digits.now) × (n ≤ most)) }
 {
-    let mut number = 0;
+    let mut number = 0u64;
     for byte in digits {
-        number = number * 10 + u64::from(byte.saturating_sub(b'0'));
-        if number > MOST_EVENTS {
+        let more = u128::from(number) * 10 + u128::from(byte.saturating_sub(b'0'));
+        if more > u128::from(most) {
             return None;
         }
+        number = more as u64;
     }
     Some(number)
 }

@@ -1,3 +1,4 @@
+pub mod Expanded
 pub mod Found
 pub mod Fuel
 pub mod Prefix

@@ -1,13 +1,16 @@
 -- From one place of a walk to the next.
 use Rattle.std.proofs.Common.{◌≡◌, ℕ, zero, suc, ◌<◌, List, [], ◌∷◌, ◌++◌, length, Some, Bor, refl, sym, ap, ◌∙◌, arith}
+use Rattle.yarn_tree.specs.declared.tree.File.{File}
 use Rattle.yarn_tree.specs.declared.tree.Head.{Head}
 use Rattle.yarn_tree.specs.declared.tree.LineText.{LineText}
-use Rattle.yarn_tree.specs.declared.tree.Node.{Node}
 use Rattle.yarn_tree.specs.declared.tree.Stmt.{Stmt}
 use Rattle.yarn_tree.specs.declared.tree.Stmt.TheVariants.{Line, Jump}
-use Rattle.yarn_player.specs.Meaning.{Event, NodeStart, LineSaid, NodeEnd, Stand, Behaviour, stands, with_event, emit, finishes, find, in_body, from, first_of}
+use Rattle.yarn_player.specs.Meaning.{Event, NodeStart, LineSaid, NodeEnd, Stand, Behaviour, stands, with_event, emit, finishes, Placed, find, in_body, from, first_of}
+use Rattle.yarn_player.specs.Template.{expanded}
+use Rattle.yarn_player.specs.Titles.{placed}
 use Rattle.yarn_player.specs.Transcript.{shown, transcript}
 use Rattle.yarn_player.specs.Walk.{first_from, Passes, Turns, Leads}
+use Rattle.yarn_player.specs.declared.titles.NodeAt.{NodeAt}
 use Rattle.yarn_player.specs.declared.walk.Place.{Place}
 use Rattle.yarn_player.specs.declared.walk.Place.TheVariants.{Enters, Within, Finishes, Fails}
 use Rattle.yarn_player.specs.declared.walk.Turn.TheVariants.{Quiet}
@@ -37,66 +40,66 @@ finished : (n : ℕ) → Agree n finishes finishes
 finished n = record { by = λ k lt. refl }
 
 -- room for one node more changes nothing
-body_agrees : (nodes : List Node) (n : Node) (ss : List Stmt) (k : ℕ) → in_body (from nodes (suc k)) n ss k ≡ in_body (from nodes k) n ss k
-body_agrees nodes n ss k =
-    sym ((related_body Agree none fewer emits stood finished k (from nodes k) (from nodes (suc k)) (related_from Agree none fewer emits stood finished nodes k) n ss).by k (omega arith))
+body_agrees : (files : List File) (n : Placed) (ss : List Stmt) (k : ℕ) → in_body (from files (suc k)) n ss k ≡ in_body (from files k) n ss k
+body_agrees files n ss k =
+    sym ((related_body Agree none fewer emits stood finished k (from files k) (from files (suc k)) (related_from Agree none fewer emits stood finished files k) n ss).by k (omega arith))
 
 -- one event from the one place to the other
-abbrev Gives : List Node → Place → Event → Place → Type 0
-Gives nodes old e new = (k : ℕ) → first_from nodes old (suc k) ≡ with_event e (first_from nodes new k)
+abbrev Gives : List File → Place → Event → Place → Type 0
+Gives files old e new = (k : ℕ) → first_from files old (suc k) ≡ with_event e (first_from files new k)
 
-passes : (nodes : List Node) (old : Place) (e : Event) (new : Place) → Gives nodes old e new → Passes nodes old (shown e) new
-passes nodes old e new g k = (ap (λ o. transcript o.events) (g k), ap (λ o. o.stand) (g k))
+passes : (files : List File) (old : Place) (e : Event) (new : Place) → Gives files old e new → Passes files old (shown e) new
+passes files old e new g k = (ap (λ o. transcript o.events) (g k), ap (λ o. o.stand) (g k))
 
 -- the event is the first of the body, and the other place goes on with the rest
-body_gives : (nodes : List Node) (n : Node) (e : Event) (ss rest : List Stmt) →
-    ((fuel : ℕ) → in_body (from nodes fuel) n ss ≡ emit e (in_body (from nodes fuel) n rest)) →
-    (m l : Bor Node) (old new : Bor (List Stmt)) → m.now ≡ n → l.now ≡ n → old.now ≡ ss → new.now ≡ rest → Gives nodes (Within m old) e (Within l new)
-body_gives nodes n e ss rest one m l old new em el eo en zero = rw (em, eo) (ap (λ b. b 0) (one 0))
-body_gives nodes n e ss rest one m l old new em el eo en (suc k) =
-    rw (em, el, eo, en) (ap (λ b. b (suc k)) (one (suc k)) ∙ ap (with_event e) (body_agrees nodes n rest k))
+body_gives : (files : List File) (n : NodeAt) (e : Event) (ss rest : List Stmt) →
+    ((fuel : ℕ) → in_body (from files fuel) (placed n) ss ≡ emit e (in_body (from files fuel) (placed n) rest)) →
+    (old new : Bor (List Stmt)) → old.now ≡ ss → new.now ≡ rest → Gives files (Within n old) e (Within n new)
+body_gives files n e ss rest one old new eo en zero = rw eo (ap (λ b. b 0) (one 0))
+body_gives files n e ss rest one old new eo en (suc k) =
+    rw (eo, en) (ap (λ b. b (suc k)) (one (suc k)) ∙ ap (with_event e) (body_agrees files (placed n) rest k))
 
-pub enters_turns : (nodes : List Node) (n : Bor Node) (ss : Bor (List Stmt)) → ss.now ≡ n.now.body → Turns nodes (Enters n) Quiet (Within n ss)
-enters_turns nodes n ss e = passes nodes (Enters n) (NodeStart n.now.title) (Within n ss) gives
+pub enters_turns : (files : List File) (n : NodeAt) (ss : Bor (List Stmt)) → ss.now ≡ n.node.now.body → Turns files (Enters n) Quiet (Within n ss)
+enters_turns files n ss e = passes files (Enters n) (NodeStart n.node.now.title) (Within n ss) gives
   where
-    gives : Gives nodes (Enters n) (NodeStart n.now.title) (Within n ss)
+    gives : Gives files (Enters n) (NodeStart n.node.now.title) (Within n ss)
     gives zero = refl
-    gives (suc k) = rw e (ap (with_event (NodeStart n.now.title)) (body_agrees nodes n.now n.now.body k))
+    gives (suc k) = rw e (ap (with_event (NodeStart n.node.now.title)) (body_agrees files (placed n) n.node.now.body k))
 
-pub end_turns : (nodes : List Node) (n : Bor Node) (ss : Bor (List Stmt)) → length ss.now ≡ 0 → Turns nodes (Within n ss) Quiet Finishes
-end_turns nodes n ss none = passes nodes (Within n ss) (NodeEnd n.now.title) Finishes (gives (no_statement ss.now none))
+pub end_turns : (files : List File) (n : NodeAt) (ss : Bor (List Stmt)) → length ss.now ≡ 0 → Turns files (Within n ss) Quiet Finishes
+end_turns files n ss none = passes files (Within n ss) (NodeEnd n.node.now.title) Finishes (gives (no_statement ss.now none))
   where
     no_statement : (l : List Stmt) → length l ≡ 0 → l ≡ []
     no_statement [] e = refl
     no_statement (s ∷ l) e = absurd (omega arith)
 
-    gives : ss.now ≡ [] → Gives nodes (Within n ss) (NodeEnd n.now.title) Finishes
+    gives : ss.now ≡ [] → Gives files (Within n ss) (NodeEnd n.node.now.title) Finishes
     gives e zero = rw e refl
     gives e (suc k) = rw e refl
 
-pub line_turns : (nodes : List Node) (n : Bor Node) (ss rest : Bor (List Stmt)) (line : LineText) →
-    ss.now ≡ Line line ∷ rest.now → Passes nodes (Within n ss) (line.text ++ 10 ∷ []) (Within n rest)
-line_turns nodes n ss rest line e =
-    passes nodes (Within n ss) (LineSaid line.id line.text) (Within n rest)
-    (body_gives nodes n.now (LineSaid line.id line.text) (Line line ∷ rest.now) rest.now (λ fuel. refl) n n ss rest refl refl e refl)
+pub line_turns : (files : List File) (n : NodeAt) (ss rest : Bor (List Stmt)) (line : LineText) →
+    ss.now ≡ Line line ∷ rest.now → Passes files (Within n ss) (expanded line.text ++ 10 ∷ []) (Within n rest)
+line_turns files n ss rest line e =
+    passes files (Within n ss) (LineSaid line.id line.text) (Within n rest)
+    (body_gives files n (LineSaid line.id line.text) (Line line ∷ rest.now) rest.now (λ fuel. refl) ss rest e refl)
 
-pub jump_turns : (nodes : List Node) (n : Bor Node) (ss : Bor (List Stmt)) (head : Head) (name : List ℕ) (rest : List Stmt) (new : Place) →
-    ss.now ≡ Jump head name ∷ rest → Leads nodes n.now.title head.line name new → Turns nodes (Within n ss) Quiet new
-jump_turns nodes n ss head name rest (Enters m) e leads = passes nodes (Within n ss) (NodeEnd n.now.title) (Enters m) gives
+pub jump_turns : (files : List File) (n : NodeAt) (ss : Bor (List Stmt)) (head : Head) (name : List ℕ) (rest : List Stmt) (new : Place) →
+    ss.now ≡ Jump head name ∷ rest → Leads files (placed n) head.line name new → Turns files (Within n ss) Quiet new
+jump_turns files n ss head name rest (Enters m) e leads = passes files (Within n ss) (NodeEnd n.node.now.title) (Enters m) gives
   where
-    gives : Gives nodes (Within n ss) (NodeEnd n.now.title) (Enters m)
+    gives : Gives files (Within n ss) (NodeEnd n.node.now.title) (Enters m)
     gives zero = rw e refl
     gives (suc k) = rw (e, leads) refl
-jump_turns nodes n ss head name rest (Within m ss1) e leads = absurd leads
-jump_turns nodes n ss head name rest Finishes e leads = absurd leads
-jump_turns nodes n ss head name rest (Fails f) e leads = passes nodes (Within n ss) (NodeEnd n.now.title) (Fails f) gives
+jump_turns files n ss head name rest (Within m ss1) e leads = absurd leads
+jump_turns files n ss head name rest Finishes e leads = absurd leads
+jump_turns files n ss head name rest (Fails f) e leads = passes files (Within n ss) (NodeEnd n.node.now.title) (Fails f) gives
   where
-    gives : Gives nodes (Within n ss) (NodeEnd n.now.title) (Fails f)
+    gives : Gives files (Within n ss) (NodeEnd n.node.now.title) (Fails f)
     gives zero = rw e refl
     gives (suc k) = let nowhere = leads.0 in let fault = leads.1 in rw (e, nowhere, fault) refl
 
 -- a run from a title is a walk from before its node
-pub first_found : (nodes titles : List Node) (start : List ℕ) (n : Bor Node) (k : ℕ) → titles ≡ nodes → Some n.now ≡ find start titles →
-    first_of nodes start k ≡ first_from titles (Enters n) k
-first_found nodes titles start n zero e is = refl
-first_found nodes titles start n (suc k) e is = let found : find start nodes ≡ Some n.now = ap (find start) (sym e) ∙ sym is in rw (found, e) refl
+pub first_found : (files titles : List File) (start : List ℕ) (n : NodeAt) (k : ℕ) → titles ≡ files → Some (placed n) ≡ find start titles →
+    first_of files start k ≡ first_from titles (Enters n) k
+first_found files titles start n zero e is = refl
+first_found files titles start n (suc k) e is = let found : find start files ≡ Some (placed n) = ap (find start) (sym e) ∙ sym is in rw (found, e) refl

@@ -1,6 +1,7 @@
--- What the nodes of a project mean: which events a conversation gives (docs/language.md, The meaning).
+-- What the files of a project mean: which events a conversation gives (docs/language.md, The meaning).
 use Rattle.std.specs.Prelude.{ℕ, zero, suc, List, [], ◌∷◌, ◌++◌, nat_eq, if◌then◌else◌, Option, Some, None}
 use Rattle.std.specs.Cmp.Lexicographic.{pointwise}
+use Rattle.yarn_tree.specs.declared.tree.File.{File}
 use Rattle.yarn_tree.specs.declared.tree.Node.{Node}
 use Rattle.yarn_tree.specs.declared.tree.Stmt.{Stmt}
 use Rattle.yarn_tree.specs.declared.tree.Stmt.TheVariants.{Line, Jump}
@@ -16,7 +17,8 @@ pub data Event : Type 0 where
 
 -- why a run faults: a jump to a title that no node has
 pub record Fault : Type 0 where
-  -- the title of the node that is left, and the line of the jump
+  -- the file's place in the project, from 0, the title of the node that is left, and the line of the jump
+  pub file : ℕ
   pub node : List ℕ
   pub line : ℕ
   pub name : List ℕ
@@ -92,32 +94,53 @@ left (Jumps line name) through jump = jump line name
 abbrev pub after : Done → Behaviour → (ℕ → List ℕ → Behaviour) → Behaviour
 after d through jump = emit_all d.events (left d.exit through jump)
 
--- the first node of that title
-abbrev pub find : List ℕ → List Node → Option Node
-find title [] = None
-find title (n ∷ ns) = if pointwise nat_eq n.title title then Some n else find title ns
+-- a node, and the place of its file in the project, from 0
+pub record Placed : Type 0 where
+  pub node : Node
+  pub file : ℕ
 
-abbrev pub at_node : Option Node → Behaviour → (Node → Behaviour) → Behaviour
+-- the nodes of the file at that place
+abbrev pub nodes_at : ℕ → List Node → List Placed
+nodes_at file [] = []
+nodes_at file (n ∷ ns) = record { node = n; file = file } ∷ nodes_at file ns
+
+-- the nodes of files in order, of which the first is at that place
+abbrev pub nodes_from : ℕ → List File → List Placed
+nodes_from file [] = []
+nodes_from file (f ∷ fs) = nodes_at file f.nodes ++ nodes_from (suc file) fs
+
+abbrev pub first_titled : List ℕ → List Placed → Option Placed
+first_titled title [] = None
+first_titled title (n ∷ ns) = if pointwise nat_eq n.node.title title then Some n else first_titled title ns
+
+-- the first node of that title, over all files in order
+abbrev pub find : List ℕ → List File → Option Placed
+find title files = first_titled title (nodes_from 0 files)
+
+abbrev pub at_node : Option Placed → Behaviour → (Placed → Behaviour) → Behaviour
 at_node None none some = none
 at_node (Some n) none some = some n
 
+abbrev pub fault_at : Placed → ℕ → List ℕ → Fault
+fault_at n line name = record { file = n.file; node = n.node.title; line = line; name = name }
+
 -- so the node is left: at the end of its body the run is over, and a jump enters the next node
-abbrev pub in_body : (List ℕ → Behaviour → Behaviour) → Node → List Stmt → Behaviour
+abbrev pub in_body : (List ℕ → Behaviour → Behaviour) → Placed → List Stmt → Behaviour
 in_body enter n ss =
-    after (does_all ss) (emit (NodeEnd n.title) finishes)
-    (λ line name. emit (NodeEnd n.title) (enter name (stands (Faults (record { node = n.title; line = line; name = name })))))
+    after (does_all ss) (emit (NodeEnd n.node.title) finishes)
+    (λ line name. emit (NodeEnd n.node.title) (enter name (stands (Faults (fault_at n line name)))))
 
 -- a node is entered, its body is done and it is left
-abbrev pub in_node : (List ℕ → Behaviour → Behaviour) → Node → Behaviour
-in_node enter n = emit (NodeStart n.title) (in_body enter n n.body)
+abbrev pub in_node : (List ℕ → Behaviour → Behaviour) → Placed → Behaviour
+in_node enter n = emit (NodeStart n.node.title) (in_body enter n n.node.body)
 
 -- from the node of that title on, through at most so many nodes; else what stands where no node has it
-abbrev pub from : List Node → ℕ → List ℕ → Behaviour → Behaviour
-from nodes zero title none = stands Limit
-from nodes (suc fuel) title none = at_node (find title nodes) none (in_node (from nodes fuel))
+abbrev pub from : List File → ℕ → List ℕ → Behaviour → Behaviour
+from files zero title none = stands Limit
+from files (suc fuel) title none = at_node (find title files) none (in_node (from files fuel))
 
 -- the first k events from a node on, for k at least 1, and the stand there; each node gives an event, so
 -- k nodes suffice. No run is made where no node has the title.
-abbrev pub first_of : List Node → List ℕ → ℕ → Outcome
-first_of nodes start zero = stands Limit zero
-first_of nodes start (suc k) = from nodes (suc k) start (stands Ended) k
+abbrev pub first_of : List File → List ℕ → ℕ → Outcome
+first_of files start zero = stands Limit zero
+first_of files start (suc k) = from files (suc k) start (stands Ended) k

@@ -5,7 +5,7 @@ use Rattle.yarn_player.specs.declared.ends.PlayEnd.{PlayEnd}
 use Rattle.yarn_player.specs.declared.ends.PlayEnd.TheVariants as named
 
 abbrev pub fault_of : FaultAt → Fault
-fault_of f = record { node = f.node.now; line = f.line; name = f.name.now }
+fault_of f = record { file = f.file; node = f.node.now; line = f.line; name = f.name.now }
 
 abbrev pub stand_of : PlayEnd → Stand
 stand_of named.Ended = Ended

@@ -1,8 +1,10 @@
 -- What is still to come of a run, from the place where its walk stands.
 use Rattle.std.specs.Prelude.{◌≡◌, ℕ, zero, suc, List, [], ◌∷◌, ◌++◌, Some, None}
-use Rattle.yarn_tree.specs.declared.tree.Node.{Node}
-use Rattle.yarn_player.specs.Meaning.{Outcome, Behaviour, Stand, Limit, Faults, stands, finishes, find, from, in_node, in_body}
+use Rattle.yarn_tree.specs.declared.tree.File.{File}
+use Rattle.yarn_player.specs.Meaning.{Outcome, Behaviour, Stand, Limit, Faults, stands, finishes, Placed, find, fault_at, from, in_node, in_body}
 use Rattle.yarn_player.specs.Stands.{fault_of, stand_of}
+use Rattle.yarn_player.specs.Template.{expanded}
+use Rattle.yarn_player.specs.Titles.{placed}
 use Rattle.yarn_player.specs.Transcript.{transcript}
 use Rattle.yarn_player.specs.declared.walk.Place.{Place}
 use Rattle.yarn_player.specs.declared.walk.Place.TheVariants.{Enters, Within, Finishes, Fails}
@@ -10,41 +12,41 @@ use Rattle.yarn_player.specs.declared.walk.Turn.{Turn}
 use Rattle.yarn_player.specs.declared.walk.Turn.TheVariants.{Quiet, Says, Ends}
 
 -- through at most so many further nodes
-abbrev pub comes_by : List Node → ℕ → Place → Behaviour
-comes_by nodes fuel (Enters n) = in_node (from nodes fuel) n.now
-comes_by nodes fuel (Within n ss) = in_body (from nodes fuel) n.now ss.now
-comes_by nodes fuel Finishes = finishes
-comes_by nodes fuel (Fails f) = stands (Faults (fault_of f))
+abbrev pub comes_by : List File → ℕ → Place → Behaviour
+comes_by files fuel (Enters n) = in_node (from files fuel) (placed n)
+comes_by files fuel (Within n ss) = in_body (from files fuel) (placed n) ss.now
+comes_by files fuel Finishes = finishes
+comes_by files fuel (Fails f) = stands (Faults (fault_of f))
 
 -- the first k events from a place on, and the stand there
-abbrev pub first_from : List Node → Place → ℕ → Outcome
-first_from nodes place zero = stands Limit zero
-first_from nodes place (suc k) = comes_by nodes k place k
+abbrev pub first_from : List File → Place → ℕ → Outcome
+first_from files place zero = stands Limit zero
+first_from files place (suc k) = comes_by files k place k
 
-abbrev pub text_from : List Node → Place → ℕ → List ℕ
-text_from nodes place k = transcript (first_from nodes place k).events
+abbrev pub text_from : List File → Place → ℕ → List ℕ
+text_from files place k = transcript (first_from files place k).events
 
-abbrev pub stand_from : List Node → Place → ℕ → Stand
-stand_from nodes place k = (first_from nodes place k).stand
+abbrev pub stand_from : List File → Place → ℕ → Stand
+stand_from files place k = (first_from files place k).stand
 
 -- one event from the one place to the other, of which the text is written
-abbrev pub Passes : List Node → Place → List ℕ → Place → Type 0
-Passes nodes old text new = (k : ℕ) →
-    (text_from nodes old (suc k) ≡ text ++ text_from nodes new k) × (stand_from nodes old (suc k) ≡ stand_from nodes new k)
+abbrev pub Passes : List File → Place → List ℕ → Place → Type 0
+Passes files old text new = (k : ℕ) →
+    (text_from files old (suc k) ≡ text ++ text_from files new k) × (stand_from files old (suc k) ≡ stand_from files new k)
 
 -- whatever may come, nothing more is written, and the run stands there
-abbrev pub StandsAt : List Node → Place → Stand → Type 0
-StandsAt nodes place stand = (k : ℕ) → (text_from nodes place (suc k) ≡ []) × (stand_from nodes place (suc k) ≡ stand)
+abbrev pub StandsAt : List File → Place → Stand → Type 0
+StandsAt files place stand = (k : ℕ) → (text_from files place (suc k) ≡ []) × (stand_from files place (suc k) ≡ stand)
 
 -- a turn from the one place to the other
-abbrev pub Turns : List Node → Place → Turn → Place → Type 0
-Turns nodes old Quiet new = Passes nodes old [] new
-Turns nodes old (Says text) new = Passes nodes old (text.now ++ 10 ∷ []) new
-Turns nodes old (Ends end) new = StandsAt nodes old (stand_of end)
+abbrev pub Turns : List File → Place → Turn → Place → Type 0
+Turns files old Quiet new = Passes files old [] new
+Turns files old (Says text) new = Passes files old (expanded text.now ++ 10 ∷ []) new
+Turns files old (Ends end) new = StandsAt files old (stand_of end)
 
--- where a jump on that line from the node of that title leads
-abbrev pub Leads : List Node → List ℕ → ℕ → List ℕ → Place → Type 0
-Leads nodes title line name (Enters n) = find name nodes ≡ Some n.now
-Leads nodes title line name (Within n ss) = ⊥
-Leads nodes title line name Finishes = ⊥
-Leads nodes title line name (Fails f) = (find name nodes ≡ None) × (fault_of f ≡ record { node = title; line = line; name = name })
+-- where a jump on that line from the node leads
+abbrev pub Leads : List File → Placed → ℕ → List ℕ → Place → Type 0
+Leads files node line name (Enters n) = find name files ≡ Some (placed n)
+Leads files node line name (Within n ss) = ⊥
+Leads files node line name Finishes = ⊥
+Leads files node line name (Fails f) = (find name files ≡ None) × (fault_of f ≡ fault_at node line name)

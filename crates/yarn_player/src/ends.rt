@@ -14,6 +14,8 @@ pub enum PlayEnd<'p> {
 /// A jump to a title that no node has.
 #[derive(Clone, Copy, Debug)]
 pub struct FaultAt<'p> {
+    /// The place of the file in the project, from 0.
+    pub file: u32,
     /// The title of the node that was left.
     pub node: &'p Text,
     /// The line of the jump, from 1.
@@ -29,6 +31,6 @@ pub enum PlayFault {
     UnknownStart,
     /// A write failed.
     Failed,
-    /// Want of memory.
+    /// Want of memory, or a file whose place doesn't fit in 32 bits.
     Memory,
 }

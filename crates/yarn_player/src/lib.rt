@@ -1,10 +1,11 @@
-//! Plays the nodes of a project.
+//! Plays the files of a project.
 #![tactic(auto)]
 
 mod ends;
 mod laws;
 mod page;
 mod run;
+mod template;
 mod titles;
 mod walk;
 

@@ -3,7 +3,9 @@ ghost use Rattle.std.specs.Io.KnownBytes.{append_known};
 ghost use Rattle.yarn_base.specs.Causes.{HasCause};
 ghost use Rattle.yarn_base.specs.Outside.{WritesPart};
 ghost use Rattle.yarn_base.proofs.Written.{IsWritten};
+ghost use Rattle.yarn_player.specs.Template.{expanded};
 
+use crate::template::first_piece;
 use std::alloc::Global;
 use yarn_base::{IoFault, Memory, Sink, Text, write_all};
 
@@ -24,11 +26,11 @@ impl Page {
         }
     }
 
-    /// Takes a line, and hands a full page over.
+    /// Takes the expanded text of a line, and hands a full page over.
     pub fn line<O: Sink>(&mut self, text: &Text, out: &mut O) -> Result<(), IoFault>
         ensures ok { OnOk result (IsWritten (O.written out.old) (O.written out.new) (O.faults out.old) (O.faults out.new)
-            (self.old.bytes.items ++ (text.now ++ 10 ∷ [])) self.new.bytes.items) }
-        ensures part { WritesPart (O.written out.old) (O.written out.new) (self.old.bytes.items ++ (text.now ++ 10 ∷ [])) }
+            (self.old.bytes.items ++ (expanded text.now ++ 10 ∷ [])) self.new.bytes.items) }
+        ensures part { WritesPart (O.written out.old) (O.written out.new) (self.old.bytes.items ++ (expanded text.now ++ 10 ∷ [])) }
         ensures cause { HasCause (O.faults out.old) (O.faults out.new) result }
     {
         if self.add(text).is_err() {
@@ -41,9 +43,14 @@ impl Page {
     }
 
     fn add(&mut self, text: &Text) -> Result<(), Memory>
-        ensures { OnOk result (self.new.bytes.items ≡ self.old.bytes.items ++ (text.now ++ 10 ∷ [])) }
+        ensures { OnOk result (self.new.bytes.items ≡ self.old.bytes.items ++ (expanded text.now ++ 10 ∷ [])) }
     {
-        self.bytes.extend_from_slice(text.as_str().as_bytes())?;
+        let mut rest = text.as_str().as_bytes();
+        while !rest.is_empty() {
+            let (piece, after) = first_piece(rest);
+            self.bytes.extend_from_slice(piece)?;
+            rest = after;
+        }
         self.bytes.push(b'\n')?;
         Ok(())
     }

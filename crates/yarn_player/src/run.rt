@@ -4,6 +4,7 @@ ghost use Rattle.yarn_base.specs.Causes.{Rose, HasCause};
 ghost use Rattle.yarn_base.specs.Outside.{WritesPart};
 ghost use Rattle.yarn_player.specs.Meaning.{first_of, find};
 ghost use Rattle.yarn_player.specs.Stands.{stand_of};
+ghost use Rattle.yarn_player.specs.Titles.{HasAll};
 ghost use Rattle.yarn_player.specs.Transcript.{transcript};
 ghost use Rattle.yarn_player.specs.Walk.{stand_from, text_from};
 
@@ -13,7 +14,7 @@ use crate::titles::Titles;
 use crate::walk::{Place, Turn, Walk};
 use std::alloc::Global;
 use yarn_base::{IoFault, Sink, Text};
-use yarn_tree::Node;
+use yarn_tree::File;
 
 /// Plays from the node of the title `start` on, and writes the transcript of the first `limit` events
 /// (docs/language.md, The meaning, The transcript). The answer says where the run stands then.
@@ -22,25 +23,25 @@ use yarn_tree::Node;
 /// fault the front of the transcript is written.
 pub fn play<'p, O: Sink>(
     alloc: Global,
-    nodes: &'p [Node],
+    files: &'p [File],
     start: &Text,
     limit: u64,
     out: &mut O,
 ) -> Result<PlayEnd<'p>, PlayFault>
     requires { 1 ≤ limit }
-    ensures stand { IfOk result (λ end. stand_of end ≡ (first_of nodes.now start.now limit).stand) }
+    ensures stand { IfOk result (λ end. stand_of end ≡ (first_of files.now start.now limit).stand) }
     ensures written { OnOk result (O.written out.new
-        ≡ append_known (O.written out.old) (transcript (first_of nodes.now start.now limit).events)) }
+        ≡ append_known (O.written out.old) (transcript (first_of files.now start.now limit).events)) }
     ensures part { WritesPart (O.written out.old) (O.written out.new)
-        (transcript (first_of nodes.now start.now limit).events) }
-    ensures unknown { IsErrOf result PlayFault.UnknownStart → find start.now nodes.now ≡ None }
-    ensures known { OnOk result (find start.now nodes.now ≡ None → ⊥) }
-    ensures failed_known { IsErrOf result PlayFault.Failed → find start.now nodes.now ≡ None → ⊥ }
+        (transcript (first_of files.now start.now limit).events) }
+    ensures unknown { IsErrOf result PlayFault.UnknownStart → find start.now files.now ≡ None }
+    ensures known { OnOk result (find start.now files.now ≡ None → ⊥) }
+    ensures failed_known { IsErrOf result PlayFault.Failed → find start.now files.now ≡ None → ⊥ }
     ensures failed { IsErrOf result PlayFault.Failed → Rose (O.faults out.old) (O.faults out.new) }
     ensures nothing { IsErrOf result PlayFault.UnknownStart → O.written out.new ≡ O.written out.old }
     ensures count { O.faults out.old ≤ O.faults out.new }
 {
-    let Ok(titles) = Titles::new(alloc, nodes) else {
+    let Ok(titles) = Titles::new(alloc, files) else {
         return Err(PlayFault::Memory);
     };
     let Some(node) = titles.find(start) else {
@@ -61,11 +62,12 @@ fn show<'p, O: Sink>(
     limit: u64,
     out: &mut O,
 ) -> Result<PlayEnd<'p>, IoFault>
-    ensures stand { IfOk result (λ end. stand_of end ≡ stand_from walk.entry.titles walk.entry.place limit) }
+    requires { HasAll walk.titles }
+    ensures stand { IfOk result (λ end. stand_of end ≡ stand_from walk.entry.titles.files.now walk.entry.place limit) }
     ensures written { OnOk result (O.written out.new
-        ≡ append_known (O.written out.old) (text_from walk.entry.titles walk.entry.place limit)) }
+        ≡ append_known (O.written out.old) (text_from walk.entry.titles.files.now walk.entry.place limit)) }
     ensures part { WritesPart (O.written out.old) (O.written out.new)
-        (text_from walk.entry.titles walk.entry.place limit) }
+        (text_from walk.entry.titles.files.now walk.entry.place limit) }
     ensures cause { HasCause (O.faults out.old) (O.faults out.new) result }
 {
     let mut page = Page::new(alloc);

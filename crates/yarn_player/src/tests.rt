@@ -3,9 +3,9 @@ use std::alloc::{AllocError, Global};
 use std::process::Abort;
 use std::test::Fail;
 use yarn_base::{List, Memory, MemorySink, Text};
-use yarn_tree::{Head, LineText, Node, Stmt};
+use yarn_tree::{File, Head, LineText, Node, Stmt};
 
-/// A node's title and its statements; `>Name` is a jump.
+/// A node's title and its statements; `>Name` is a jump. The title `/` stands for the end of a file.
 type Script<'a> = (&'a str, &'a [&'a str]);
 
 /// A run: its name, its nodes, the start, the limit, and what is written and how it ends.
@@ -13,11 +13,19 @@ type Case<'a> = (&'a str, &'a [Script<'a>], &'a str, u64, &'a str, &'a str);
 
 fn statement(alloc: Global, line: u32, word: &str) -> Result<Stmt, Memory> {
     match word.strip_prefix(">") {
-        Some(name) => Ok(Stmt::Jump(Head { line }, Text::from_str(alloc, name)?)),
+        Some(name) => Ok(Stmt::Jump(
+            Head {
+                line,
+                tags: List::new(alloc),
+            },
+            Text::from_str(alloc, name)?,
+        )),
         None => Ok(Stmt::Line(LineText {
             line,
             id: Text::from_str(alloc, "line:a")?,
             text: Text::from_str(alloc, word)?,
+            holes: List::new(alloc),
+            tags: List::new(alloc),
         })),
     }
 }
@@ -25,6 +33,7 @@ fn statement(alloc: Global, line: u32, word: &str) -> Result<Stmt, Memory> {
 fn titled(alloc: Global, title: &str, body: List<Stmt>) -> Result<Node, Memory> {
     Ok(Node {
         title: Text::from_str(alloc, title)?,
+        headers: List::new(alloc),
         line: 1,
         end_line: 1,
         body,
@@ -43,12 +52,27 @@ fn node(alloc: Global, title: &str, words: &[&str]) -> Result<Node, Memory> {
     titled(alloc, title, body)
 }
 
-fn nodes_of(alloc: Global, scripts: &[Script]) -> Result<Vec<Node>, Memory> {
-    let mut nodes = Vec::new(alloc);
+fn file_of(alloc: Global, nodes: List<Node>) -> Result<File, Memory> {
+    Ok(File {
+        name: Text::from_str(alloc, "a.yarn")?,
+        tags: List::new(alloc),
+        nodes,
+    })
+}
+
+fn files_of(alloc: Global, scripts: &[Script]) -> Result<Vec<File>, Memory> {
+    let mut files = Vec::new(alloc);
+    let mut nodes = List::new(alloc);
     for (title, words) in scripts {
-        nodes.push(node(alloc, title, words)?)?;
+        if *title == "/" {
+            files.push(file_of(alloc, nodes)?)?;
+            nodes = List::new(alloc);
+        } else {
+            nodes.push(node(alloc, title, words)?).map_err(|_| Memory)?;
+        }
     }
-    Ok(nodes)
+    files.push(file_of(alloc, nodes)?)?;
+    Ok(files)
 }
 
 fn end_of(alloc: Global, end: &Result<PlayEnd, PlayFault>) -> Result<String, AllocError> {
@@ -56,8 +80,9 @@ fn end_of(alloc: Global, end: &Result<PlayEnd, PlayFault>) -> Result<String, All
         Ok(PlayEnd::Ended) => String::from_str(alloc, "ended"),
         Ok(PlayEnd::Limit) => String::from_str(alloc, "limit"),
         Ok(PlayEnd::Faults(fault)) => {
-            let (node, line, name) = (fault.node.as_str(), fault.line, fault.name.as_str());
-            format!(in alloc; "{node}:{line}: {name}")
+            let (file, node, line) = (fault.file, fault.node.as_str(), fault.line);
+            let name = fault.name.as_str();
+            format!(in alloc; "{file}:{node}:{line}: {name}")
         }
         Err(PlayFault::UnknownStart) => String::from_str(alloc, "unknown start"),
         Err(PlayFault::Failed) => String::from_str(alloc, "failed"),
@@ -68,10 +93,10 @@ fn end_of(alloc: Global, end: &Result<PlayEnd, PlayFault>) -> Result<String, All
 fn expect(rt: &impl Abort, alloc: Global, case: Case) -> Result<(), Memory> {
     let (name, scripts, start, limit, written, stand) = case;
     assert!(rt; limit >= 1, "{name}: a limit is at least one");
-    let nodes = nodes_of(alloc, scripts)?;
+    let files = files_of(alloc, scripts)?;
     let start = Text::from_str(alloc, start)?;
     let mut out = MemorySink::new(alloc);
-    let end = play(alloc, nodes.as_slice(), &start, limit, &mut out);
+    let end = play(alloc, files.as_slice(), &start, limit, &mut out);
     assert_eq!(rt; end_of(alloc, &end)?.as_str(), stand, "{name} at {limit}");
     assert_eq!(rt;
         out.written().as_slice(),
@@ -84,12 +109,17 @@ fn expect(rt: &impl Abort, alloc: Global, case: Case) -> Result<(), Memory> {
 #[test]
 fn each_run_writes_its_transcript(rt: HostRuntime) -> Result<(), Fail> {
     let alloc = rt.alloc();
-    let hello: &[Script] = &[("Start", &["Hi", ">Next", "never"]), ("Next", &["Bye"])];
+    let hello: &[Script] = &[
+        ("Start", &["Hi", ">Next", "never"]),
+        ("/", &[]),
+        ("Next", &["Bye"]),
+    ];
     let pair: &[Script] = &[("A", &["a", ">B"]), ("B", &["b", ">A"])];
-    let nowhere: &[Script] = &[("Start", &["Hi", ">Nowhere"])];
+    let nowhere: &[Script] = &[("/", &[]), ("/", &[]), ("Start", &["Hi", ">Nowhere"])];
     let empty: &[Script] = &[("Start", &[])];
-    let twice: &[Script] = &[("Start", &["first"]), ("Start", &["second"])];
-    let rows: [Case; 19] = [
+    let twice: &[Script] = &[("Start", &["first"]), ("/", &[]), ("Start", &["second"])];
+    let braces: &[Script] = &[("Start", &["\\{a\\} \\[b\\]", "\\\\{", "\\}\\\\", ""])];
+    let rows: [Case; 20] = [
         ("hello", hello, "Start", 1, "", "limit"),
         ("hello", hello, "Start", 4, "Hi\n", "limit"),
         ("hello", hello, "Start", 6, "Hi\nBye\n", "limit"),
@@ -105,10 +135,18 @@ fn each_run_writes_its_transcript(rt: HostRuntime) -> Result<(), Fail> {
         ("pair", pair, "A", 7, "a\nb\n", "limit"),
         ("pair", pair, "A", 8, "a\nb\na\n", "limit"),
         ("nowhere", nowhere, "Start", 3, "Hi\n", "limit"),
-        ("nowhere", nowhere, "Start", 4, "Hi\n", "Start:2: Nowhere"),
+        ("nowhere", nowhere, "Start", 4, "Hi\n", "2:Start:2: Nowhere"),
         ("empty", empty, "Start", 2, "", "limit"),
         ("empty", empty, "Start", 3, "", "ended"),
         ("twice", twice, "Start", 100, "first\n", "ended"),
+        (
+            "braces",
+            braces,
+            "Start",
+            100,
+            "{a} \\[b\\]\n\\\\{\n}\\\\\n\n",
+            "ended",
+        ),
     ];
     for case in rows {
         expect(&rt, alloc, case)?;
@@ -139,7 +177,9 @@ fn long_node(alloc: Global) -> Result<Node, Memory> {
 #[test]
 fn lines_are_handed_over_by_the_page(rt: HostRuntime) -> Result<(), Fail> {
     let alloc = rt.alloc();
-    let nodes = [long_node(alloc)?];
+    let mut nodes = List::new(alloc);
+    nodes.push(long_node(alloc)?).map_err(|_| Memory)?;
+    let files = [file_of(alloc, nodes)?];
     let start = Text::from_str(alloc, "Long")?;
     // the bytes that are written where that write fails: 66 lines fill a page
     let rows = [
@@ -151,7 +191,7 @@ fn lines_are_handed_over_by_the_page(rt: HostRuntime) -> Result<(), Fail> {
     for (failing, want, bytes) in rows {
         let mut out = MemorySink::new(alloc);
         out.fail(failing)?;
-        let end = play(alloc, &nodes, &start, 1000, &mut out);
+        let end = play(alloc, &files, &start, 1000, &mut out);
         assert_eq!(rt;
             end_of(alloc, &end)?.as_str(),
             want,

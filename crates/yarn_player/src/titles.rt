@@ -1,51 +1,60 @@
-ghost use Rattle.std.specs.Prelude.{◌≡◌, IfOk};
-ghost use Rattle.std.specs.Option.{option_copied};
-ghost use Rattle.yarn_player.specs.Meaning.{find};
+ghost use Rattle.std.specs.Prelude.{◌≡◌, IfOk, OnOk, option_map};
+ghost use Rattle.yarn_player.specs.Meaning.{find, nodes_at};
+ghost use Rattle.yarn_player.specs.Titles.{placed, PutsBefore, HasAll};
 
 use std::alloc::Global;
 use std::collections::BTreeMap;
-use std::marker::Model;
 use yarn_base::{Memory, Text};
-use yarn_tree::Node;
+use yarn_tree::{File, Node};
 
-/// The nodes of a project, found by their titles. Contracts see it as the list of the nodes.
-#[derive(Drop)]
-pub struct Titles<'p> {
-    nodes: &'p [Node],
-    first: BTreeMap<&'p str, &'p Node>,
+/// A node, and the place of its file in the project, from 0.
+#[derive(Clone, Copy)]
+pub struct NodeAt<'p> {
+    pub node: &'p Node,
+    pub file: u32,
 }
 
-impl<'p> Model for Titles<'p> {
-    ghost use Rattle.std.specs.Prelude.{◌≡◌, List, ℕ};
-    ghost use Rattle.std.specs.Cmp.Lexicographic.{slice_cmp};
-    ghost use Rattle.std.specs.Ordering.{nat_cmp};
-    ghost use Rattle.std.specs.BTreeMap.{get_by};
-    ghost use Rattle.std.specs.Option.{option_copied};
-    ghost use Rattle.yarn_player.specs.Meaning.{find};
-    ghost use Rattle.yarn_tree.specs.declared.tree.Node.{Node};
-
-    ghost Value = { List Node };
-
-    ghost view = { λ t. t.nodes.now };
-
-    ghost invariant = { λ t. (q : List ℕ) → option_copied (get_by (λ k. slice_cmp nat_cmp q k.now) t.first) ≡ find q t.nodes.now };
+/// The nodes of a project, found by their titles.
+#[derive(Drop)]
+pub struct Titles<'p> {
+    pub files: &'p [File],
+    first: BTreeMap<&'p str, NodeAt<'p>>,
 }
 
 impl<'p> Titles<'p> {
-    pub fn new(alloc: Global, nodes: &'p [Node]) -> Result<Titles<'p>, Memory>
-        ensures { IfOk result (λ t. t ≡ nodes.now) }
+    pub fn new(alloc: Global, files: &'p [File]) -> Result<Titles<'p>, Memory>
+        ensures files { IfOk result (λ t. t.files.now ≡ files.now) }
+        ensures all { IfOk result HasAll }
     {
         let mut first = BTreeMap::new(alloc);
-        for node in nodes.iter().rev() {
-            first.insert(node.title.as_str(), node)?;
+        let mut rest = files;
+        while let Some((file, before)) = rest.split_last() {
+            add_nodes(&mut first, before.len(), file.nodes.as_slice())?;
+            rest = before;
         }
-        Ok(Titles { nodes, first })
+        Ok(Titles { files, first })
     }
 
     /// The first node of that title.
-    pub fn find(&self, title: &Text) -> Option<&'p Node>
-        ensures { option_copied result ≡ find title.now self.now }
+    pub fn find(&self, title: &Text) -> Option<NodeAt<'p>>
+        requires { HasAll self.now }
+        ensures { option_map placed result ≡ find title.now self.now.files.now }
     {
         self.first.get(title.as_str()).copied()
     }
+}
+
+// Puts the nodes of the file at that place before those of the map.
+fn add_nodes<'p>(
+    first: &mut BTreeMap<&'p str, NodeAt<'p>>,
+    place: usize,
+    nodes: &'p [Node],
+) -> Result<(), Memory>
+    ensures { OnOk result (PutsBefore first.old first.new (nodes_at place nodes.now)) }
+{
+    let file = u32::try_from(place).map_err(|_| Memory)?;
+    for node in nodes.iter().rev() {
+        first.insert(node.title.as_str(), NodeAt { node, file })?;
+    }
+    Ok(())
 }

@@ -1,18 +1,19 @@
 ghost use Rattle.std.specs.Prelude.{◌≡◌};
+ghost use Rattle.yarn_player.specs.Titles.{placed, HasAll};
 ghost use Rattle.yarn_player.specs.Walk.{Turns, Leads};
 
 use crate::ends::{FaultAt, PlayEnd};
-use crate::titles::Titles;
+use crate::titles::{NodeAt, Titles};
 use yarn_base::Text;
-use yarn_tree::{Node, Stmt};
+use yarn_tree::Stmt;
 
 /// Where a walk through the nodes stands.
 #[derive(Clone, Copy)]
 pub enum Place<'p> {
     /// Before the node.
-    Enters(&'p Node),
+    Enters(NodeAt<'p>),
     /// In the node, before these statements.
-    Within(&'p Node, &'p [Stmt]),
+    Within(NodeAt<'p>, &'p [Stmt]),
     /// Behind the last node.
     Finishes,
     /// At a jump that leads nowhere.
@@ -39,12 +40,13 @@ pub struct Walk<'p> {
 impl<'p> Walk<'p> {
     /// Gives exactly one event, or where the run stands.
     pub fn next(&mut self) -> Turn<'p>
-        ensures turn { Turns self.old.titles self.old.place result self.new.place }
+        requires { HasAll self.old.titles }
+        ensures turn { Turns self.old.titles.files.now self.old.place result self.new.place }
         ensures titles { self.new.titles ≡ self.old.titles }
     {
         match self.place {
             Place::Enters(node) => {
-                self.place = Place::Within(node, node.body.as_slice());
+                self.place = Place::Within(node, node.node.body.as_slice());
                 Turn::Quiet
             }
             Place::Within(node, statements) => self.statement(node, statements),
@@ -54,8 +56,9 @@ impl<'p> Walk<'p> {
     }
 
     // The first of these statements, or the end of the node.
-    fn statement(&mut self, node: &'p Node, statements: &'p [Stmt]) -> Turn<'p>
-        ensures turn { Turns self.old.titles (Place.Within node.entry statements.entry) result self.new.place }
+    fn statement(&mut self, node: NodeAt<'p>, statements: &'p [Stmt]) -> Turn<'p>
+        requires { HasAll self.old.titles }
+        ensures turn { Turns self.old.titles.files.now (Place.Within node.entry statements.entry) result self.new.place }
         ensures titles { self.new.titles ≡ self.old.titles }
     {
         match statements.split_first() {
@@ -75,13 +78,15 @@ impl<'p> Walk<'p> {
     }
 
     // Where the walk stands after the node was left by a jump.
-    fn behind_jump(&self, node: &'p Node, line: u32, name: &'p Text) -> Place<'p>
-        ensures { Leads self.now.titles node.now.title line name.now result }
+    fn behind_jump(&self, node: NodeAt<'p>, line: u32, name: &'p Text) -> Place<'p>
+        requires { HasAll self.now.titles }
+        ensures { Leads self.now.titles.files.now (placed node.entry) line name.now result }
     {
         match self.titles.find(name) {
             Some(next) => Place::Enters(next),
             None => Place::Fails(FaultAt {
-                node: &node.title,
+                file: node.file,
+                node: &node.node.title,
                 line,
                 name,
             }),

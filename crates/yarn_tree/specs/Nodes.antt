@@ -1,75 +1,121 @@
--- The nodes that lines make.
-use Rattle.std.specs.Prelude.{ℕ, ◌+◌, List, [], ◌∷◌, ◌++◌, ◌&&◌, if◌then◌else◌, Option, Some, None, is_none, codes}
-use Rattle.std.specs.Fmt.{decimal}
-use Rattle.std.specs.Str.{bytes_eq}
-use Rattle.yarn_lines.specs.declared.line.RawLine.{RawLine}
+-- The hashtags and the nodes that items make (docs/language.md, Nodes and Body lines).
+use Rattle.std.specs.Prelude.{ℕ, ◌+◌, List, [], ◌∷◌, ◌++◌, Bool, ◌&&◌, if◌then◌else◌, Option, Some, None, is_none}
+use Rattle.yarn_items.specs.declared.item.Header.{Header}
+use Rattle.yarn_items.specs.declared.item.Said.{Said}
+use Rattle.yarn_items.specs.declared.item.Item.{Item}
+use Rattle.yarn_items.specs.declared.item.Item.TheVariants as item
 use Rattle.yarn_tree.specs.declared.draft.Draft.{Draft}
-use Rattle.yarn_tree.specs.declared.item.Mode.TheVariants.{InHeaders, InBody}
+use Rattle.yarn_tree.specs.declared.draft.Titled.{Titled}
 use Rattle.yarn_tree.specs.declared.tree.Node.{Node}
 use Rattle.yarn_tree.specs.declared.tree.Stmt.{Stmt}
 use Rattle.yarn_tree.specs.declared.tree.Stmt.TheVariants.{Line, Jump}
-use Rattle.yarn_tree.specs.Item.{Item, HeaderOf, BodyBegins, NodeEnds, Plain, JumpTo}
-use Rattle.yarn_tree.specs.Form.{item_of}
+use Rattle.yarn_tree.specs.Body.{ItemAt, line_id, id_among}
+use Rattle.yarn_tree.specs.Titles.{is_title}
+
+-- the hashtags of the file
+abbrev pub and_tag : Item → List (List ℕ) → List (List ℕ)
+and_tag (item.FileTag tag) tags = tag ∷ tags
+and_tag (item.Header header) tags = tags
+and_tag item.BodyBegins tags = tags
+and_tag item.NodeEnds tags = tags
+and_tag (item.Line said) tags = tags
+and_tag (item.Jump name own) tags = tags
+
+abbrev pub tags_of : List ItemAt → List (List ℕ)
+tags_of [] = []
+tags_of (x ∷ xs) = and_tag x.item (tags_of xs)
 
 -- nothing of a node
 abbrev pub no_draft : Draft
-no_draft = record { mode = InHeaders; title = None; line = 0; body = []; said = 0 }
+no_draft = record { title = None; headers = []; line = 0; body = []; said = 0 }
 
--- the value of the first header `title`, and nothing where there is none
-abbrev pub title_of : Option (List ℕ) → List ℕ
-title_of None = []
-title_of (Some title) = title
+-- the title of a node without one is empty, and on no line
+abbrev pub titled_of : Option Titled → Titled
+titled_of None = record { line = 0; title = [] }
+titled_of (Some titled) = titled
 
--- the id of a line that has none of its own: the node's title and the lines before it in the node
-abbrev pub line_id : List ℕ → ℕ → List ℕ
-line_id title before = codes "line:" ++ (title ++ (codes "-" ++ decimal before))
-
-abbrev pub header_taken : Draft → List ℕ → List ℕ → Draft
-header_taken draft key value =
-    if bytes_eq key (codes "title") && is_none draft.title
-    then record { mode = draft.mode; title = Some value; line = draft.line; body = draft.body; said = draft.said }
-    else draft
+-- the first header `title` gives the title
+abbrev pub header_taken : Draft → ℕ → Header → Draft
+header_taken draft line header = record {
+  title = if is_title header && is_none draft.title then Some (record { line = line; title = header.value }) else draft.title;
+  headers = draft.headers ++ header ∷ [];
+  line = draft.line;
+  body = draft.body;
+  said = draft.said;
+}
 
 abbrev pub body_begun : Draft → ℕ → Draft
-body_begun draft number = record { mode = InBody; title = draft.title; line = number; body = []; said = 0 }
+body_begun draft line = record { title = draft.title; headers = draft.headers; line = line; body = []; said = 0 }
 
 abbrev pub with_stmt : Draft → Stmt → Draft
-with_stmt draft stmt = record { mode = draft.mode; title = draft.title; line = draft.line; body = draft.body ++ stmt ∷ []; said = draft.said }
+with_stmt draft stmt = record {
+  title = draft.title;
+  headers = draft.headers;
+  line = draft.line;
+  body = draft.body ++ stmt ∷ [];
+  said = draft.said;
+}
 
 abbrev pub counted : Draft → Draft
-counted draft = record { mode = draft.mode; title = draft.title; line = draft.line; body = draft.body; said = draft.said + 1 }
+counted draft = record { title = draft.title; headers = draft.headers; line = draft.line; body = draft.body; said = draft.said + 1 }
 
--- a line that is said has an id from its node's title and the lines before it
-abbrev pub line_taken : Draft → ℕ → List ℕ → Draft
-line_taken draft number text =
-    counted (with_stmt draft (Line (record { line = number; id = line_id (title_of draft.title) draft.said; text = text })))
+-- the id of a line, where ids are wanted
+abbrev pub id_given : Bool → List (List ℕ) → List ℕ → ℕ → List ℕ
+id_given ids tags title before = if ids then id_among tags (line_id title before) else []
 
-abbrev pub jump_taken : Draft → ℕ → List ℕ → Draft
-jump_taken draft number name = with_stmt draft (Jump (record { line = number }) name)
+abbrev pub line_taken : Bool → Draft → ℕ → Said → Draft
+line_taken ids draft line said = counted (with_stmt draft (Line (record {
+  line = line;
+  id = id_given ids said.tags (titled_of draft.title).title draft.said;
+  text = said.text;
+  holes = [];
+  tags = said.tags;
+})))
 
--- what of a node stands behind a line
-abbrev pub draft_after : Draft → ℕ → Option Item → Draft
-draft_after draft number None = draft
-draft_after draft number (Some (HeaderOf key value)) = header_taken draft key value
-draft_after draft number (Some BodyBegins) = body_begun draft number
-draft_after draft number (Some NodeEnds) = no_draft
-draft_after draft number (Some (Plain text)) = line_taken draft number text
-draft_after draft number (Some (JumpTo name)) = jump_taken draft number name
+abbrev pub jump_taken : Draft → ℕ → List ℕ → List (List ℕ) → Draft
+jump_taken draft line name tags = with_stmt draft (Jump (record { line = line; tags = tags }) name)
 
+-- what of a node stands behind an item
+abbrev pub draft_behind : Bool → Draft → ℕ → Item → Draft
+draft_behind ids draft line (item.FileTag tag) = draft
+draft_behind ids draft line (item.Header header) = header_taken draft line header
+draft_behind ids draft line item.BodyBegins = body_begun draft line
+draft_behind ids draft line item.NodeEnds = no_draft
+draft_behind ids draft line (item.Line said) = line_taken ids draft line said
+draft_behind ids draft line (item.Jump name tags) = jump_taken draft line name tags
+
+-- the node that ends at that line
 abbrev pub node_of : Draft → ℕ → Node
-node_of draft number = record { title = title_of draft.title; line = draft.line; end_line = number; body = draft.body }
+node_of draft line = record {
+  title = (titled_of draft.title).title;
+  headers = draft.headers;
+  line = draft.line;
+  end_line = line;
+  body = draft.body;
+}
 
--- the node that ends at a line: at a `===` of a body
-abbrev pub node_ended : Draft → ℕ → Option Item → Option Node
-node_ended draft number (Some NodeEnds) = Some (node_of draft number)
-node_ended draft number _ = None
+-- a `===` ends a node
+abbrev pub and_node : Draft → ℕ → Item → List Node → List Node
+and_node draft line item.NodeEnds nodes = node_of draft line ∷ nodes
+and_node draft line (item.FileTag tag) nodes = nodes
+and_node draft line (item.Header header) nodes = nodes
+and_node draft line item.BodyBegins nodes = nodes
+and_node draft line (item.Line said) nodes = nodes
+and_node draft line (item.Jump name tags) nodes = nodes
 
-abbrev pub and_node : Option Node → List Node → List Node
-and_node None nodes = nodes
-and_node (Some node) nodes = node ∷ nodes
+abbrev pub nodes_from : Bool → Draft → List ItemAt → List Node
+nodes_from ids draft [] = []
+nodes_from ids draft (x ∷ xs) = and_node draft x.line x.item (nodes_from ids (draft_behind ids draft x.line x.item) xs)
 
-abbrev pub nodes_from : Draft → List RawLine → List Node
-nodes_from draft [] = []
-nodes_from draft (line ∷ lines) =
-    and_node (node_ended draft line.number (item_of draft.mode line.text))
-    (nodes_from (draft_after draft line.number (item_of draft.mode line.text)) lines)
+-- the titles of these nodes, and the lines of their headers
+abbrev pub and_titled : Draft → Item → List Titled → List Titled
+and_titled draft item.NodeEnds titles = titled_of draft.title ∷ titles
+and_titled draft (item.FileTag tag) titles = titles
+and_titled draft (item.Header header) titles = titles
+and_titled draft item.BodyBegins titles = titles
+and_titled draft (item.Line said) titles = titles
+and_titled draft (item.Jump name tags) titles = titles
+
+abbrev pub titles_from : Bool → Draft → List ItemAt → List Titled
+titles_from ids draft [] = []
+titles_from ids draft (x ∷ xs) = and_titled draft x.item (titles_from ids (draft_behind ids draft x.line x.item) xs)

@@ -1,115 +1,113 @@
 //! A node while its lines are read.
-ghost use Rattle.std.specs.Prelude.{◌≡◌, IfOk, OnOk, Some};
-ghost use Rattle.yarn_tree.specs.Nodes.{no_draft, title_of, line_id, header_taken, body_begun, with_stmt, line_taken, jump_taken, draft_after, node_ended, node_of};
-ghost use Rattle.yarn_tree.specs.View.{item_found};
+ghost use Rattle.std.specs.Prelude.{◌≡◌, IfOk, OnOk};
+ghost use Rattle.yarn_tree.specs.Titles.{is_title, is_mistitled};
+ghost use Rattle.yarn_tree.specs.Nodes.{no_draft, titled_of, header_taken, body_begun, with_stmt, line_taken, jump_taken};
 
-use crate::item::{Found, Mode};
-use crate::{Head, LineText, Node, Stmt};
+use crate::ids::id_for;
+use crate::{Head, Header, LineText, Stmt};
 use std::alloc::Global;
-use std::{mem, str};
-use yarn_base::{List as Items, Memory, Text};
-use yarn_lines::RawLine;
+use yarn_base::{List, Memory, Text, is_name};
+use yarn_items::{Item, Said};
+
+/// The title of a node, and the line of its header.
+#[derive(Drop)]
+pub(crate) struct Titled {
+    pub line: u32,
+    pub title: Text,
+}
 
 /// What of a node has been read.
-#[derive(Debug, Drop)]
+#[derive(Drop)]
 pub(crate) struct Draft {
-    pub mode: Mode,
-    title: Option<Text>,
-    line: u32,
-    body: Items<Stmt>,
-    said: u64,
+    pub title: Option<Titled>,
+    pub headers: List<Header>,
+    pub line: u32,
+    pub body: List<Stmt>,
+    pub said: u64,
 }
 
 impl Draft {
+    ghost use Rattle.std.specs.Prelude.{is_some};
+
     pub(crate) fn new(alloc: Global) -> Draft
         ensures { result ≡ no_draft }
     {
         Draft {
-            mode: Mode::InHeaders,
             title: None,
+            headers: List::new(alloc),
             line: 0,
-            body: Items::new(alloc),
+            body: List::new(alloc),
             said: 0,
         }
     }
 
-    /// Takes the item of a line, and gives the node that ends there.
-    pub(crate) fn take(
-        &mut self,
-        alloc: Global,
-        line: &RawLine,
-        found: Found,
-    ) -> Result<Option<Node>, Memory>
-        ensures ended { IfOk result (λ node. node ≡ node_ended self.old line.now.number (Some (item_found line.now.text found.entry))) }
-        ensures after { OnOk result (self.new ≡ draft_after self.old line.now.number (Some (item_found line.now.text found.entry))) }
+    /// Whether with the item the node isn't titled well.
+    pub(crate) fn is_mistitled_by(&self, item: &Item) -> bool
+        ensures { result ≡ is_mistitled (is_some self.now.title) item.now }
     {
-        match found {
-            Found::Header(key, value) => self.take_header(alloc, key, value)?,
-            Found::BodyBegins => self.begin_body(alloc, line.number),
-            Found::NodeEnds => return Ok(Some(self.end_node(alloc, line.number)?)),
-            Found::Plain => self.take_line(alloc, line.number, line.text.copy()?)?,
-            Found::Jump(name) => self.take_jump(alloc, line.number, name)?,
+        match item {
+            Item::Header(header) => {
+                is_title_header(header) && (self.title.is_some() || !is_name(&header.value))
+            }
+            Item::BodyBegins => self.title.is_none(),
+            Item::NodeEnds | Item::FileTag(_) | Item::Line(_) | Item::Jump(..) => false,
         }
-        Ok(None)
     }
 
-    fn take_header(&mut self, alloc: Global, key: &[u8], value: &[u8]) -> Result<(), Memory>
-        ensures { OnOk result (self.new ≡ header_taken self.old key.now value.now) }
+    pub(crate) fn take_header(&mut self, line: u32, header: Header) -> Result<(), Memory>
+        ensures { OnOk result (self.new ≡ header_taken self.old line header) }
     {
-        if key == b"title".as_slice() && self.title.is_none() {
-            self.title = Some(text_from(alloc, value)?);
+        if is_title_header(&header) && self.title.is_none() {
+            let title = header.value.copy()?;
+            self.title = Some(Titled { line, title });
         }
-        Ok(())
+        self.headers.push(header).map_err(|_| Memory)
     }
 
-    fn begin_body(&mut self, alloc: Global, number: u32)
-        ensures { self.new ≡ body_begun self.old number }
+    pub(crate) fn begin_body(&mut self, alloc: Global, line: u32)
+        ensures { self.new ≡ body_begun self.old line }
     {
-        self.mode = Mode::InBody;
-        self.line = number;
-        self.body = Items::new(alloc);
+        self.line = line;
+        self.body = List::new(alloc);
         self.said = 0;
     }
 
-    fn end_node(&mut self, alloc: Global, number: u32) -> Result<Node, Memory>
-        ensures node { IfOk result (λ node. node ≡ node_of self.old number) }
-        ensures after { OnOk result (self.new ≡ no_draft) }
+    /// Takes a line that is said; it has an id where ids are wanted.
+    pub(crate) fn take_line(
+        &mut self,
+        alloc: Global,
+        ids: bool,
+        line: u32,
+        said: Said,
+    ) -> Result<(), Memory>
+        ensures { OnOk result (self.new ≡ line_taken ids self.old line said) }
     {
-        let Draft {
-            title,
-            line,
-            body,
-            ..
-        } = mem::replace(self, Draft::new(alloc));
-        Ok(Node {
-            title: title_or_empty(alloc, title)?,
-            line,
-            end_line: number,
-            body,
-        })
-    }
-
-    /// Takes a line that is said.
-    pub(crate) fn take_line(&mut self, alloc: Global, number: u32, text: Text) -> Result<(), Memory>
-        ensures { OnOk result (self.new ≡ line_taken self.old number text) }
-    {
-        let title = self.title.as_ref().map_or("", |title| title.as_str());
-        let id = line_id_for(alloc, title, self.said)?;
-        let said = self.said.checked_add(1).ok_or(Memory)?;
+        let Said { text, tags } = said;
+        let before = self.said;
+        let title = self
+            .title
+            .as_ref()
+            .map_or("", |titled| titled.title.as_str());
+        let id = id_for(alloc, ids, &tags, title, before)?;
+        self.said = before.checked_add(1).ok_or(Memory)?;
         self.add(Stmt::Line(LineText {
-            line: number,
+            line,
             id,
             text,
-        }))?;
-        self.said = said;
-        Ok(())
+            holes: List::new(alloc),
+            tags,
+        }))
     }
 
-    fn take_jump(&mut self, alloc: Global, number: u32, name: &str) -> Result<(), Memory>
-        ensures { OnOk result (self.new ≡ jump_taken self.old number name.now) }
+    pub(crate) fn take_jump(
+        &mut self,
+        line: u32,
+        name: Text,
+        tags: List<Text>,
+    ) -> Result<(), Memory>
+        ensures { OnOk result (self.new ≡ jump_taken self.old line name tags) }
     {
-        let name = Text::from_str(alloc, name)?;
-        self.add(Stmt::Jump(Head { line: number }, name))
+        self.add(Stmt::Jump(Head { line, tags }, name))
     }
 
     fn add(&mut self, statement: Stmt) -> Result<(), Memory>
@@ -119,30 +117,21 @@ impl Draft {
     }
 }
 
-fn title_or_empty(alloc: Global, title: Option<Text>) -> Result<Text, Memory>
-    ensures { IfOk result (λ text. text ≡ title_of title) }
+fn is_title_header(header: &Header) -> bool
+    ensures { result ≡ is_title header.now }
+{
+    header.key.as_str().as_bytes() == b"title".as_slice()
+}
+
+/// The title of a node; one that has none stands on no line, and is empty.
+pub(crate) fn titled_or_empty(alloc: Global, title: Option<Titled>) -> Result<Titled, Memory>
+    ensures { IfOk result (λ titled. titled ≡ titled_of title) }
 {
     match title {
-        Some(title) => Ok(title),
-        None => Text::from_str(alloc, ""),
+        Some(titled) => Ok(titled),
+        None => Ok(Titled {
+            line: 0,
+            title: Text::from_str(alloc, "")?,
+        }),
     }
-}
-
-// The value of a header. It is cut out of a text at ASCII characters, so it is a text.
-fn text_from(alloc: Global, value: &[u8]) -> Result<Text, Memory>
-    ensures { IfOk result (λ text. text ≡ value.now) }
-{
-    match str::from_utf8(value) {
-        Ok(text) => Text::from_str(alloc, text),
-        Err(_) => Err(Memory),
-    }
-}
-
-// The id of a line that has none of its own; lines of a node count from 0.
-fn line_id_for(alloc: Global, title: &str, before: u64) -> Result<Text, Memory>
-    ensures { IfOk result (λ id. id ≡ line_id title.now before) }
-{
-    let mut id = String::with_capacity(alloc, title.len().saturating_add(12))?;
-    write!(id, "line:{title}-{before}")?;
-    Ok(Text::from_string(id))
 }

@@ -1,29 +1,35 @@
 //! Jumps to titles that no node has.
-ghost use Rattle.std.specs.Prelude.{◌≡◌, ◌||◌, IfOk, List, ℕ};
-ghost use Rattle.yarn_tree.specs.Jumps.{titles, unknown_jump, first_unknown};
+ghost use Rattle.std.specs.Prelude.{◌≡◌};
+ghost use Rattle.yarn_tree.specs.Checks.{unknown_jump, first_unknown, unknown_in};
 ghost use Rattle.yarn_tree.specs.Names.{has};
+ghost use Rattle.yarn_tree.specs.Places.{first_place};
 
 use crate::names::Names;
+use crate::stages::FileRead;
 use crate::{Node, Stmt};
-use std::alloc::Global;
-use yarn_base::Memory;
+use yarn_base::Place;
 
-/// The line of the first jump to a title that none of the nodes has.
-pub(crate) fn unknown_in(alloc: Global, nodes: &[Node]) -> Result<Option<u32>, Memory>
-    ensures { IfOk result (λ line. line ≡ first_unknown (titles nodes.now) nodes.now) }
+/// The first jump to a name that isn't known.
+pub(crate) fn unknown_among(known: &Names, reads: &[FileRead]) -> Option<Place>
+    ensures { result ≡ first_place (unknown_in (has known.now)) reads.now }
 {
-    let known = titles_of(alloc, nodes)?;
-    Ok(first_unknown_in(&known, nodes))
+    for read in reads {
+        let place = unknown_place(known, read);
+        if place.is_some() {
+            return place;
+        }
+    }
+    None
 }
 
-fn titles_of<'a>(alloc: Global, nodes: &'a [Node]) -> Result<Names<'a>, Memory>
-    ensures { IfOk result (λ known. has known ≡ titles nodes.now) }
+fn unknown_place(known: &Names, read: &FileRead) -> Option<Place>
+    ensures { result ≡ unknown_in (has known.now) read.now }
 {
-    let mut known = Names::new(alloc);
-    for node in nodes {
-        known.insert(node.title.as_str())?;
-    }
-    Ok(known)
+    let line = first_unknown_in(known, read.file.nodes.as_slice())?;
+    Some(Place {
+        file: read.number,
+        line,
+    })
 }
 
 fn first_unknown_in(known: &Names, nodes: &[Node]) -> Option<u32>

@@ -1,18 +1,28 @@
-//! The tree of a file: its nodes with their statements, or the first fault of the file.
+//! The trees of a project's files, or the first fault of the project.
 #![tactic(auto)]
 
+mod checks;
 mod draft;
-mod item;
+mod ids;
 mod jumps;
-pub mod laws;
 mod names;
-mod not_built;
+mod print;
+mod print_laws;
 mod read;
 mod reader;
 mod refusal;
+mod size;
+mod split;
+mod stages;
 mod structure;
 mod tree;
 
-pub use read::read_file;
+pub use print::print_file;
+pub use print_laws::{printed_stands, prints_the_same};
+pub use read::{read_file, read_project};
 pub use refusal::{ProjectFault, Refusal, RefusalKind};
-pub use tree::{File, Head, LineText, Node, Stmt};
+pub use tree::{File, Head, LineText, Node, Project, Stmt};
+pub use yarn_items::Header;
+
+#[cfg(test)]
+mod print_tests;

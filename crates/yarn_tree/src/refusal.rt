@@ -4,18 +4,28 @@ use yarn_base::Place;
 /// place decides, at its first place.
 #[derive(Clone, Copy, Debug, PartialEq, Eq)]
 pub enum RefusalKind {
-    /// A form that this version doesn't read yet.
-    NotBuilt,
+    /// The 257th file, a file of more than 4,194,304 bytes, or the file with which all have more than 33,554,432.
+    TooMuch,
     /// A line that is no UTF-8.
     BadUtf8,
     /// A line of more than 65,536 bytes.
     LineTooLong,
+    /// A form that this version doesn't read yet.
+    NotBuilt,
     /// A line that is nothing in its place, as `hello` before a `---`.
     BadLine,
     /// A line that stands where it may not, as a `===` without a `---`.
     BadStructure,
+    /// The 65,537th node.
+    TooMany,
+    /// A node without a title, a second title of a node, or a title that is no name.
+    BadTitle,
+    /// A title that an earlier node has.
+    DuplicateTitle,
     /// A jump to a title that no node has.
     UnknownNode,
+    /// A line with an id that an earlier line has.
+    DuplicateLineId,
 }
 
 /// A refusal and where it stands.

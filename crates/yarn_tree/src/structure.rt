@@ -1,43 +1,71 @@
-//! Where the lines of a file may stand.
-ghost use Rattle.std.specs.Prelude.{◌≡◌, ℕ, List, Some};
-ghost use Rattle.yarn_tree.specs.Form.{item_of};
-ghost use Rattle.yarn_tree.specs.Structure.{is_misplaced, misplaced_end, waits_after};
-ghost use Rattle.yarn_tree.specs.View.{found_in, item_found};
+//! Where the items of a file may stand.
+ghost use Rattle.std.specs.Prelude.{◌≡◌};
+ghost use Rattle.yarn_tree.specs.Structure.{mode_of, is_misplaced, stand_behind, header_behind, misplaced_end};
 
-use crate::item::{Found, Mode, item_in};
-use yarn_lines::RawLine;
+use yarn_items::{Item, Mode};
 
-/// The item of a line of that mode.
-pub(crate) fn item_at(mode: Mode, line: &RawLine) -> Option<Found>
-    ensures { found_in line.now.text result ≡ item_of mode line.now.text }
-{
-    item_in(mode, line.text.as_str().as_bytes())
+/// What stands before a line of a file.
+#[derive(Clone, Copy)]
+pub(crate) enum Stand {
+    /// Nothing but hashtags of the file.
+    Front,
+    /// The `===` of a node.
+    Between,
+    /// Headers that wait for their body.
+    Headed,
+    /// A `---`, whose body goes on.
+    Inside,
 }
 
-/// A `===` stands in a body alone.
-pub(crate) fn is_misplaced_at(mode: Mode, found: Found) -> bool
-    ensures { (text : List ℕ) → result ≡ is_misplaced mode (Some (item_found text found.entry)) }
-{
-    matches!((mode, found), (Mode::InHeaders, Found::NodeEnds))
-}
-
-/// Whether headers wait for their body.
-pub(crate) fn waits_behind(waits: bool, found: Found) -> bool
-    ensures { (text : List ℕ) → result ≡ waits_after waits (Some (item_found text found.entry)) }
-{
-    match found {
-        Found::Header(..) => true,
-        Found::BodyBegins => false,
-        Found::NodeEnds | Found::Plain | Found::Jump(_) => waits,
+impl Stand {
+    pub(crate) fn mode(self) -> Mode
+        ensures { result ≡ mode_of self }
+    {
+        match self {
+            Stand::Front | Stand::Between | Stand::Headed => Mode::InHeaders,
+            Stand::Inside => Mode::InBody,
+        }
     }
-}
 
-/// The file's end, where it may not stand.
-pub(crate) fn end_misplaced(mode: Mode, waits: bool, end: u32) -> Option<u32>
-    ensures { result ≡ misplaced_end mode waits end }
-{
-    match mode {
-        Mode::InBody => Some(end),
-        Mode::InHeaders => waits.then_some(end),
+    /// Whether the item may not stand here.
+    pub(crate) fn refuses(self, item: &Item) -> bool
+        ensures { result ≡ is_misplaced self item.now }
+    {
+        match item {
+            Item::FileTag(_) => !matches!(self, Stand::Front),
+            Item::NodeEnds => !matches!(self, Stand::Inside),
+            Item::Header(_) | Item::BodyBegins | Item::Line(_) | Item::Jump(..) => false,
+        }
+    }
+
+    /// What stands before the line behind the item.
+    pub(crate) fn behind(self, item: &Item) -> Stand
+        ensures { result ≡ stand_behind self item.now }
+    {
+        match item {
+            Item::Header(_) => self.behind_header(),
+            Item::BodyBegins => Stand::Inside,
+            Item::NodeEnds => Stand::Between,
+            Item::FileTag(_) | Item::Line(_) | Item::Jump(..) => self,
+        }
+    }
+
+    fn behind_header(self) -> Stand
+        ensures { result ≡ header_behind self }
+    {
+        match self {
+            Stand::Inside => Stand::Inside,
+            Stand::Front | Stand::Between | Stand::Headed => Stand::Headed,
+        }
+    }
+
+    /// The file's end, where it may not stand here.
+    pub(crate) fn end_misplaced(self, end: u32) -> Option<u32>
+        ensures { result ≡ misplaced_end self end }
+    {
+        match self {
+            Stand::Front | Stand::Between => None,
+            Stand::Headed | Stand::Inside => Some(end),
+        }
     }
 }

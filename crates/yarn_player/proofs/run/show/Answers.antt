@@ -1,5 +1,6 @@
 use Rattle.std.proofs.Common.{◌≡◌, ◌-◌, ◌++◌, ◌∷◌, [], arith}
 use Rattle.yarn_player.specs.Stands.{stand_of}
+use Rattle.yarn_player.specs.Template.{expanded}
 use Rattle.yarn_player.proofs.Shown.{one_left, ends_shown, limit_shown, says_shown, says_stops, quiet_shown, turn_stops}
 use Rattle.yarn_player.proofs.run.show.Goals as goal
 use Rattle.yarn_player.proofs.run.show.Goals.{in-Quiet, in-Says+in_ok-line-in-Says}
@@ -7,7 +8,7 @@ use Rattle.yarn_player.proofs.run.show.Goals.{in-Quiet, in-Says+in_ok-line-in-Sa
 pub returns-in_err-line-in-Says-clause-part : goal.returns-in_err-line-in-Says-clause-part
 returns-in_err-line-in-Says-clause-part g c =
     let one = one_left c.args.limit c.loop.counter c.loop-test.true in
-    says_stops _ _ _ _ _ _ _ _ _ _ _ c.loop.invariant _ one (c.in-Says.text.now ++ 10 ∷ []) c.next.new.self.place c.in-Says.ensures.turn _ c.line.ensures.part
+    says_stops _ _ _ _ _ _ _ _ _ _ _ c.loop.invariant _ one (expanded c.in-Says.text.now ++ 10 ∷ []) c.next.new.self.place c.in-Says.ensures.turn _ c.line.ensures.part
 
 pub returns-in_err-turn-in-Ends-clause-part : goal.returns-in_err-turn-in-Ends-clause-part
 returns-in_err-turn-in-Ends-clause-part g c = turn_stops _ _ _ _ _ _ _ _ _ _ _ c.loop.invariant _ c.turn.ensures.part
@@ -27,7 +28,7 @@ loop-preserved g c =
       | in-Quiet w ↦
           rw (w.out-is, w.page-is) (quiet_shown _ _ _ _ _ _ _ _ _ _ _ c.loop.invariant _ one c.next.new.self.place w.in-Quiet.ensures.turn _ c.next.ensures.titles)
       | in-Says+in_ok-line-in-Says w ↦
-          rw (w.out-is, w.page-is) (says_shown _ _ _ _ _ _ _ _ _ _ _ c.loop.invariant _ one (w.in-Says.text.now ++ 10 ∷ []) c.next.new.self.place w.in-Says.ensures.turn _ _ _ _ c.next.ensures.titles w.in_ok-line-in-Says.ensures.ok)
+          rw (w.out-is, w.page-is) (says_shown _ _ _ _ _ _ _ _ _ _ _ c.loop.invariant _ one (expanded w.in-Says.text.now ++ 10 ∷ []) c.next.new.self.place w.in-Says.ensures.turn _ _ _ _ c.next.ensures.titles w.in_ok-line-in-Says.ensures.ok)
     ]
 
 pub returns-in_err-turn-clause-part : goal.returns-in_err-turn-clause-part

@@ -1,5 +1,5 @@
 use Rattle.std.proofs.Common.{◌≡◌, drop}
-use Rattle.yarn_tree.specs.Jumps.{first_unknown}
+use Rattle.yarn_tree.specs.Checks.{first_unknown}
 use Rattle.yarn_tree.specs.Names.{has}
 use Rattle.yarn_tree.proofs.jumps.first_unknown_in.Given as goal
 

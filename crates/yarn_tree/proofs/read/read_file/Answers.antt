@@ -1,6 +1,6 @@
-use Rattle.std.proofs.Common.{◌∙◌}
-use Rattle.yarn_tree.proofs.LawLemmas.{found}
+use Rattle.std.proofs.Common.{sym, ◌∙◌}
+use Rattle.yarn_tree.proofs.ReadLemmas.{big-told}
 use Rattle.yarn_tree.proofs.read.read_file.Goals as goal
 
-pub returns-in-Ok-clause-stands : goal.returns-in-Ok-clause-stands
-returns-in-Ok-clause-stands c = found c.args.file.now.bytes c.in_ok-nodes.nodes (c.in_ok-lines.ensures ∙ c.in_ok-nodes.ensures)
+pub returns-in-Some : goal.returns-in-Some
+returns-in-Some c = big-told c.args.file.now c.in-Some.place c.refused.result (sym c.in-Some.ensures) c.refused.ensures

@@ -1,0 +1,170 @@
+//! `play`: plays a project and writes its transcript.
+ghost use Rattle.std.specs.Prelude.{◌≡◌, ◌≤◌, ◌⊎◌, List, ℕ, IfSome, IfOk, string_bytes};
+ghost use Rattle.std.specs.Io.KnownBytes.{append_known};
+ghost use Rattle.yarn_base.specs.Causes.{Rose};
+ghost use Rattle.yarn_base.specs.Outside.{WritesPart};
+ghost use Rattle.yarn_player.specs.Stands.{stand_of, fault_of};
+ghost use Rattle.yarn_tree.specs.Reading.{Answers, reading_of};
+ghost use Rattle.yarn_cli.specs.Ended.{Says, SaysUnread, GivesSoFar};
+ghost use Rattle.yarn_cli.specs.Messages.{faulted, name_at, no_node, cannot_write};
+ghost use Rattle.yarn_cli.specs.Outcome.{of_play, of_project, of_files, of_stand, IsPlain, Gives, NamesRead};
+
+use crate::message::{Ended, file_name, read_failed, refused_at, write_failed};
+use crate::read::{AllRead, read_all};
+use crate::{Command, CommandKind, Status};
+use std::alloc::{AllocError, Global};
+use yarn_base::{Files, List as Items, Sink, Source, SourceFile, Words};
+use yarn_player::{FaultAt, PlayEnd, PlayFault, play};
+use yarn_tree::{File, Project, ProjectFault, read_project};
+
+/// Runs `play`: reads all its files, plays the project that they are, and says on `err` why it ended otherwise than
+/// well (docs/commands.md, play).
+pub fn run_play<F: Files, I: Source, O: Sink, E: Sink>(
+    alloc: Global,
+    command: &Command,
+    files: &mut F,
+    input: &mut I,
+    out: &mut O,
+    err: &mut E,
+) -> Status
+    requires { command.now.kind ≡ CommandKind.Play }
+
+    // Where neither a fault nor want of memory is answered, all is as the outcome says.
+    ensures exact { IsPlain result → IfSome (F.contents files.old) (λ named.
+        Gives (of_play command.now named) result (O.written out.old) (O.written out.new) (E.written err.old) (E.written err.new)) }
+
+    // Whatever is answered, what was written is a part of the outcome's.
+    ensures part { IfSome (F.contents files.old) (λ named.
+        WritesPart (O.written out.old) (O.written out.new) (of_play command.now named).out) }
+
+    ensures read { result ≡ Status.ReadFault → Rose (F.read_faults files.old) (F.read_faults files.new)
+        × NamesRead command.now.names (F.contents files.old) (F.latest_fault files.new) (E.written err.old) (E.written err.new) }
+    ensures write { result ≡ Status.WriteFault → Rose (E.faults err.old) (E.faults err.new)
+        ⊎ (Rose (O.faults out.old) (O.faults out.new) × (E.written err.new ≡ append_known (E.written err.old) cannot_write)) }
+
+    ensures files { F.contents files.new ≡ F.contents files.old }
+    ensures input { input.new ≡ input.old }
+    ensures read_count { F.read_faults files.old ≤ F.read_faults files.new }
+    ensures write_count { F.write_faults files.new ≡ F.write_faults files.old }
+    ensures out_count { O.faults out.old ≤ O.faults out.new }
+    ensures err_count { E.faults err.old ≤ E.faults err.new }
+{
+    let _ = input;
+    play_named(alloc, command, files, out).say(err)
+}
+
+// Plays the files that the command names; its line isn't said yet.
+fn play_named<F: Files, O: Sink>(
+    alloc: Global,
+    command: &Command,
+    files: &mut F,
+    out: &mut O,
+) -> Ended
+    ensures exact { IsPlain result.status → IfSome (F.contents files.old) (λ named.
+        GivesSoFar (of_play command.now named) result (O.written out.old) (O.written out.new)) }
+    ensures part { IfSome (F.contents files.old) (λ named.
+        WritesPart (O.written out.old) (O.written out.new) (of_play command.now named).out) }
+    ensures read { result.status ≡ Status.ReadFault → Rose (F.read_faults files.old) (F.read_faults files.new)
+        × SaysUnread command.now.names (F.contents files.old) (F.latest_fault files.new) result }
+    ensures write { result.status ≡ Status.WriteFault →
+        Rose (O.faults out.old) (O.faults out.new) × (string_bytes result.line ≡ cannot_write) }
+    ensures files { F.contents files.new ≡ F.contents files.old }
+    ensures read_count { F.read_faults files.old ≤ F.read_faults files.new }
+    ensures write_count { F.write_faults files.new ≡ F.write_faults files.old }
+    ensures out_count { O.faults out.old ≤ O.faults out.new }
+{
+    match read_all(alloc, command.names().as_slice(), files) {
+        AllRead::Sources(sources) => play_sources(alloc, command, sources, out),
+        AllRead::Unread(name) => read_failed(alloc, name.as_str()),
+        AllRead::Memory => Ended::out_of_memory(alloc),
+    }
+}
+
+// Reads the project that the sources are, and plays it.
+fn play_sources<O: Sink>(
+    alloc: Global,
+    command: &Command,
+    sources: Items<SourceFile>,
+    out: &mut O,
+) -> Ended
+    ensures exact { IsPlain result.status →
+        GivesSoFar (of_project command.now (reading_of sources)) result (O.written out.old) (O.written out.new) }
+    ensures part { WritesPart (O.written out.old) (O.written out.new) (of_project command.now (reading_of sources)).out }
+    ensures write { result.status ≡ Status.WriteFault →
+        Rose (O.faults out.old) (O.faults out.new) × (string_bytes result.line ≡ cannot_write) }
+    ensures no_read { result.status ≡ Status.ReadFault → ⊥ }
+    ensures count { O.faults out.old ≤ O.faults out.new }
+{
+    match project_of(alloc, sources) {
+        Ok(project) => play_files(alloc, command, project.files.as_slice(), out),
+        Err(ProjectFault::Refused(refusal)) => refused_at(alloc, command.names(), refusal),
+        Err(ProjectFault::Memory) => Ended::out_of_memory(alloc),
+    }
+}
+
+// Reads the sources, and lets them go.
+fn project_of(alloc: Global, sources: Items<SourceFile>) -> Result<Project, ProjectFault>
+    ensures { Answers (reading_of sources) result }
+{
+    read_project(alloc, &sources)
+}
+
+// Plays the files of the project.
+fn play_files<O: Sink>(alloc: Global, command: &Command, files: &[File], out: &mut O) -> Ended
+    ensures exact { IsPlain result.status →
+        GivesSoFar (of_files command.now files.now) result (O.written out.old) (O.written out.new) }
+    ensures part { WritesPart (O.written out.old) (O.written out.new) (of_files command.now files.now).out }
+    ensures write { result.status ≡ Status.WriteFault →
+        Rose (O.faults out.old) (O.faults out.new) × (string_bytes result.line ≡ cannot_write) }
+    ensures no_read { result.status ≡ Status.ReadFault → ⊥ }
+    ensures count { O.faults out.old ≤ O.faults out.new }
+{
+    let Ok(start) = command.start(alloc) else {
+        return Ended::out_of_memory(alloc);
+    };
+    match play(alloc, files, &start, command.limit(), out) {
+        Ok(end) => ended_at(alloc, command.names(), end),
+        Err(PlayFault::UnknownStart) => unknown_start(alloc, start.as_str()),
+        Err(PlayFault::Failed) => write_failed(alloc),
+        Err(PlayFault::Memory) => Ended::out_of_memory(alloc),
+    }
+}
+
+fn ended_at(alloc: Global, names: &Words, end: PlayEnd) -> Ended
+    ensures exact { IsPlain result.status → (out : List ℕ) → Says (of_stand names.now (stand_of end.entry) out) result }
+    ensures no_read { result.status ≡ Status.ReadFault → ⊥ }
+    ensures no_write { result.status ≡ Status.WriteFault → ⊥ }
+{
+    match end {
+        PlayEnd::Ended => Ended::with_line(alloc, Status::Done, Ok(String::new(alloc))),
+        PlayEnd::Limit => {
+            Ended::with_line(
+                alloc,
+                Status::EventLimit,
+                String::from_str(alloc, "event limit\n"),
+            )
+        }
+        PlayEnd::Faults(fault) => {
+            let file = file_name(names, fault.file);
+            Ended::with_line(alloc, Status::RunFault, fault_line(alloc, file, fault))
+        }
+    }
+}
+
+fn fault_line(alloc: Global, file: &str, fault: FaultAt) -> Result<String, AllocError>
+    ensures { IfOk result (λ line. string_bytes line ≡ faulted file.now (fault_of fault.entry)) }
+{
+    let (node, line, name) = (fault.node.as_str(), fault.line, fault.name.as_str());
+    format!(in alloc; "{file}:{line}: {node}: UnknownNode {name}\n")
+}
+
+fn unknown_start(alloc: Global, start: &str) -> Ended
+    ensures cases { (result.status ≡ Status.UnknownStart) ⊎ (result.status ≡ Status.OutOfMemory) }
+    ensures line { result.status ≡ Status.UnknownStart → string_bytes result.line ≡ no_node start.now }
+{
+    Ended::with_line(
+        alloc,
+        Status::UnknownStart,
+        format!(in alloc; "no node {start}\n"),
+    )
+}

@@ -1,0 +1,15 @@
+pub mod BlankLemmas
+pub mod CutLemmas
+pub mod FoundLemmas
+pub mod HashtagLemmas
+pub mod HeadingLemmas
+pub mod JumpLemmas
+pub mod LineLemmas
+pub mod NameBytes
+pub mod NameLemmas
+pub mod PieceLemmas
+pub mod SimpleLemmas
+pub mod TableLemmas
+pub mod TableTextLemmas
+pub mod TagsLemmas
+pub mod Utf8Lemmas

@@ -1,0 +1,5 @@
+use Rattle.yarn_items.proofs.FoundLemmas.{items}
+use Rattle.yarn_items.proofs.laws.items_are_found.Goals as goal
+
+pub returns : goal.returns
+returns c = items

@@ -1,0 +1,11 @@
+pub mod Text
+pub mod Item
+pub mod Name
+pub mod Cut
+pub mod Hashtags
+pub mod Heading
+pub mod Body
+pub mod Form
+pub mod Laws
+pub mod Simple
+pub mod Step

@@ -1,5 +1,0 @@
-use Rattle.yarn_tree.proofs.LawLemmas.{bad_line}
-use Rattle.yarn_tree.proofs.laws.bad_line_is_right.Goals as goal
-
-pub returns : goal.returns
-returns c = bad_line

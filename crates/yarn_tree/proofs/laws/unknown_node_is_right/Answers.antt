@@ -1,5 +1,0 @@
-use Rattle.yarn_tree.proofs.LawLemmas.{unknown_node}
-use Rattle.yarn_tree.proofs.laws.unknown_node_is_right.Goals as goal
-
-pub returns : goal.returns
-returns c = unknown_node

@@ -1,0 +1,117 @@
+//! The refusals that are found once all lines are read.
+ghost use Rattle.std.specs.Prelude.{◌≡◌, slice_get, IfOk, OnOk};
+ghost use Rattle.yarn_tree.specs.Checks.{noted_in, extra_node, begun_at, titles_in, titles_seen, ids_in, ids_within, ids_seen};
+ghost use Rattle.yarn_tree.specs.Names.{sees_all, sight_of};
+ghost use Rattle.yarn_tree.specs.Places.{first_place};
+
+use crate::draft::Titled;
+use crate::names::Seen;
+use crate::stages::{FileRead, Note};
+use crate::{Node, Stmt};
+use std::alloc::Global;
+use yarn_base::{Memory, Place};
+
+const MOST_NODES: usize = 65536;
+
+/// The first place that was noted of the files.
+pub(crate) fn first_noted(note: Note, reads: &[FileRead]) -> Option<Place>
+    ensures { result ≡ first_place (noted_in note) reads.now }
+{
+    for read in reads {
+        let place = read.place_of(note);
+        if place.is_some() {
+            return place;
+        }
+    }
+    None
+}
+
+/// The `---` of the first node that is one too many.
+pub(crate) fn extra_node_in(reads: &[FileRead]) -> Option<Place>
+    ensures { result ≡ extra_node 65536 reads.now }
+{
+    let mut left = MOST_NODES;
+    for read in reads {
+        let place = node_behind(left, read);
+        if place.is_some() {
+            return place;
+        }
+        left = left.saturating_sub(read.file.nodes.len());
+    }
+    None
+}
+
+// The `---` of the node behind so many of the file.
+fn node_behind(before: usize, read: &FileRead) -> Option<Place>
+    ensures { result ≡ begun_at read.now.number (slice_get read.now.file.nodes before) }
+{
+    let nodes = read.file.nodes.as_slice();
+    if before >= nodes.len() {
+        return None;
+    }
+    Some(Place {
+        file: read.number,
+        line: nodes[before].line,
+    })
+}
+
+/// The titles of the files, and the first that comes again.
+
+pub(crate) fn see_titles<'a>(alloc: Global, reads: &'a [FileRead]) -> Result<Seen<'a>, Memory>
+    ensures { IfOk result (λ seen. sight_of seen ≡ titles_seen reads.now) }
+{
+    let mut seen = Seen::new(alloc);
+    for read in reads {
+        see_titles_in(&mut seen, read.number, read.titles.as_slice())?;
+    }
+    Ok(seen)
+}
+
+fn see_titles_in<'a>(seen: &mut Seen<'a>, file: u32, titles: &'a [Titled]) -> Result<(), Memory>
+    ensures { OnOk result (sight_of seen.new ≡ sees_all (sight_of seen.old) (titles_in file titles.now)) }
+{
+    for titled in titles {
+        let place = Place {
+            file,
+            line: titled.line,
+        };
+        seen.see(titled.title.as_str(), place)?;
+    }
+    Ok(())
+}
+
+/// The place of the first id that an earlier line has.
+
+pub(crate) fn second_id(alloc: Global, reads: &[FileRead]) -> Result<Option<Place>, Memory>
+    ensures { IfOk result (λ again. again ≡ (ids_seen reads.now).again) }
+{
+    let mut seen = Seen::new(alloc);
+    for read in reads {
+        see_ids_within(&mut seen, read.number, read.file.nodes.as_slice())?;
+    }
+    Ok(seen.again)
+}
+
+fn see_ids_within<'a>(seen: &mut Seen<'a>, file: u32, nodes: &'a [Node]) -> Result<(), Memory>
+    ensures { OnOk result (sight_of seen.new ≡ sees_all (sight_of seen.old) (ids_within file nodes.now)) }
+{
+    for node in nodes {
+        see_ids_in(seen, file, node.body.as_slice())?;
+    }
+    Ok(())
+}
+
+fn see_ids_in<'a>(seen: &mut Seen<'a>, file: u32, body: &'a [Stmt]) -> Result<(), Memory>
+    ensures { OnOk result (sight_of seen.new ≡ sees_all (sight_of seen.old) (ids_in file body.now)) }
+{
+    for statement in body {
+        if let Stmt::Line(said) = statement {
+            let place = Place {
+                file,
+                line: said.line,
+            };
+            seen.see(said.id.as_str(), place)?;
+        }
+    }
+    Ok(())
+}
