@@ -54,7 +54,7 @@ more-found name (Some bytes) (Found others) longer files file later are =
       whole = source_of name bytes ∷ more.whole;
       found = ap (with_source name (Some bytes)) more.found;
       are = ap (λ (l : List SourceFile). l ++ file ∷ []) (are.are ∙ ap (map cut) is)
-        ∙ ap (λ (l : List SourceFile). cut (source_of name bytes) ∷ l) more.are;
+          ∙ ap (λ (l : List SourceFile). cut (source_of name bytes) ∷ l) more.are;
     }
 
 sources_of-push : (named : Named) (names : List (List ℕ)) (name : List ℕ) (files : List SourceFile) (file : SourceFile) →

@@ -17,3 +17,6 @@ pub use format::run_format;
 pub use play::run_play;
 pub use run::run_yarn;
 pub use status::Status;
+
+#[cfg(test)]
+mod tests;

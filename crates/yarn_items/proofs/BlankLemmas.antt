@@ -1,10 +1,10 @@
 -- The blanks around a part of a line.
-use Rattle.std.proofs.Common.{◌≡◌, ℕ, List, [], ◌∷◌, ◌++◌, Bool, true, false, ◌||◌, ◌&&◌, nat_eq, ◌⊎◌, inl, inr, refl, sym, ap, ◌∙◌}
+use Rattle.std.proofs.Common.{◌≡◌, ℕ, List, [], ◌∷◌, ◌++◌, Bool, true, false, ◌&&◌, nat_eq, ◌⊎◌, inl, inr, refl, ap, ◌∙◌}
 use Rattle.std.specs.List.{list_all, list_any}
-use Rattle.std.proofs.lemmas.Bool.{eqb-true, or_cases, or_from, or_parts, and_parts, and_from}
+use Rattle.std.proofs.lemmas.Bool.{eqb-true, or_cases, or_from, or_parts, and_parts}
 use Rattle.std.proofs.lemmas.List.Folds.{list_all-append}
 use Rattle.yarn_lines.specs.Lines.{is_blank, leading, past_leading, without_trailing}
-use Rattle.yarn_items.specs.Text.{trimmed, begins_other, begins_pair}
+use Rattle.yarn_items.specs.Text.{trimmed}
 use Rattle.yarn_items.proofs.NameBytes.{is_out, is_hash, is_colon, in-solid}
 
 -- a blank is no other byte

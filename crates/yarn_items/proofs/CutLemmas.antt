@@ -1,9 +1,9 @@
 -- Where the text of a line ends, piece by piece; and a text without a `\`.
-use Rattle.std.proofs.Common.{◌≡◌, ℕ, zero, suc, ◌+◌, ◌-◌, ◌<◌, List, [], ◌∷◌, ◌++◌, length, take, drop, Bool, true, false, ◌||◌, ◌&&◌, nat_eq, ◌⊎◌, inl, inr, codes, refl, sym, ap, ◌∙◌, arith, add-one}
+use Rattle.std.proofs.Common.{◌≡◌, ℕ, suc, ◌+◌, ◌-◌, ◌<◌, List, [], ◌∷◌, length, take, drop, Bool, true, false, nat_eq, ◌⊎◌, inl, inr, refl, sym, ap, ◌∙◌, arith, add-one}
 use Rattle.std.specs.List.{list_any}
 use Rattle.std.proofs.lemmas.Bool.{or_parts}
 use Rattle.std.proofs.lemmas.List.{take_rest, drop-drop}
-use Rattle.yarn_items.specs.Text.{is_escaped, kept, Pair, begins_other, begins_pair}
+use Rattle.yarn_items.specs.Text.{begins_other, begins_pair}
 use Rattle.yarn_items.specs.Cut.{piece_length, text_length, unescaped, behind_text}
 
 pub text_length-end : (bytes : List ℕ) → piece_length bytes ≡ 0 → text_length bytes ≡ 0

@@ -1,17 +1,15 @@
 -- What is found of a line is what the line is.
-use Rattle.std.proofs.Common.{◌≡◌, ◌↔◌, ℕ, List, [], ◌∷◌, ◌++◌, Bool, true, false, ◌||◌, ◌&&◌, if◌then◌else◌, Option, Some, None, ◌⊎◌, inl, inr, codes, bytes_eq, refl, sym, ap, ◌∙◌, subst}
+use Rattle.std.proofs.Common.{◌≡◌, ◌↔◌, ℕ, List, [], ◌∷◌, Bool, true, false, if◌then◌else◌, Option, Some, None, ◌⊎◌, inl, inr, codes, bytes_eq, refl, sym, ap, ◌∙◌, subst}
 use Rattle.std.specs.List.{list_any}
 use Rattle.std.proofs.lemmas.Bool.{false_from_ne_true}
 use Rattle.std.proofs.lemmas.Slice.Eq.{bytes_eq-Decides}
-use Rattle.yarn_lines.specs.Lines.{begins_with}
 use Rattle.yarn_items.specs.declared.item.Mode.{Mode}
 use Rattle.yarn_items.specs.declared.item.Mode.TheVariants.{InHeaders, InBody}
-use Rattle.yarn_items.specs.declared.item.Said.{Said}
 use Rattle.yarn_items.specs.declared.item.Item.{Item}
 use Rattle.yarn_items.specs.declared.item.Item.TheVariants as item
 use Rattle.yarn_items.specs.declared.item.Found.{Found}
 use Rattle.yarn_items.specs.declared.item.Found.TheVariants as found
-use Rattle.yarn_items.specs.Item.{is_cr, is_option, is_command, HasJump, IsLine, IsJump, IsForm, IsItem, HasUnread, IsOtherCommand, IsUnreadForm, IsNotBuilt}
+use Rattle.yarn_items.specs.Item.{is_cr, is_option, is_command, HasJump, IsJump, IsForm, IsItem, IsUnreadForm, IsNotBuilt}
 use Rattle.yarn_items.specs.Hashtags.{tags_of}
 use Rattle.yarn_items.specs.Cut.{own_text, behind_text}
 use Rattle.yarn_items.specs.Body.{jump_with, command_found, line_found, body_found}

@@ -1,9 +1,8 @@
 -- Hashtags, one after the other.
-use Rattle.std.proofs.Common.{◌≡◌, ℕ, zero, suc, ◌+◌, ◌-◌, ◌<◌, List, [], ◌∷◌, ◌++◌, length, take, drop, get_or, Bool, true, false, not, ◌||◌, ◌&&◌, nat_eq, Option, Some, None, ◌⊎◌, inl, inr, codes, bytes_eq, refl, sym, ap, ◌∙◌, arith, add-one, append_assoc, IsUtf8}
+use Rattle.std.proofs.Common.{◌≡◌, ℕ, zero, suc, ◌<◌, List, [], ◌∷◌, ◌++◌, length, take, drop, get_or, Bool, true, false, nat_eq, Option, Some, None, codes, bytes_eq, refl, sym, ap, ◌∙◌, arith, add-one, append_assoc}
 use Rattle.std.proofs.lemmas.Bool.{or_parts, eqb-true, ne_eqb}
-use Rattle.std.proofs.lemmas.List.{drop_more, take_rest}
 use Rattle.yarn_lines.specs.Lines.{is_blank, past_leading, begins_with}
-use Rattle.yarn_items.specs.Text.{is_tag_byte, is_id, has_no_id, has_fine_ids}
+use Rattle.yarn_items.specs.Text.{is_tag_byte}
 use Rattle.yarn_items.specs.Hashtags.{tag_length, onto_first, with_tag, unless_empty, tags_from, tags_of}
 use Rattle.yarn_items.specs.Step.{ends_line, IsStep}
 use Rattle.yarn_items.specs.declared.hashtags.Step.{Step}

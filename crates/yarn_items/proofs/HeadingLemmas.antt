@@ -1,17 +1,14 @@
 -- What is found among headers is what the text of a line is there.
-use Rattle.std.proofs.Common.{◌≡◌, ℕ, suc, ◌+◌, ◌-◌, ◌<◌, List, [], ◌∷◌, ◌++◌, length, take, drop, Bool, true, false, not, ◌||◌, ◌&&◌, nat_eq, nat_lt, ◌⊎◌, inl, inr, codes, bytes_eq, refl, sym, ap, ◌∙◌, subst, arith, append_assoc, add-one}
+use Rattle.std.proofs.Common.{◌≡◌, ℕ, suc, ◌+◌, ◌<◌, List, [], ◌∷◌, ◌++◌, length, take, drop, Bool, true, false, nat_eq, nat_lt, codes, bytes_eq, refl, sym, ap, ◌∙◌, subst, arith, append_assoc, add-one}
 use Rattle.std.specs.List.{list_all, list_any}
-use Rattle.std.proofs.lemmas.Bool.{eqb-true, or_parts, or_from, and_parts, false_from_ne_true, lt-ltb, ltb-true}
+use Rattle.std.proofs.lemmas.Bool.{eqb-true, or_parts, or_from, false_from_ne_true, lt-ltb, ltb-true}
 use Rattle.std.proofs.lemmas.List.{take_at, drop_at, length-append}
 use Rattle.std.proofs.lemmas.List.Folds.{list_any-append}
 use Rattle.std.proofs.lemmas.Slice.Eq.{bytes_eq-Decides}
-use Rattle.yarn_lines.specs.Lines.{is_blank, without_trailing}
-use Rattle.yarn_items.specs.declared.item.Mode.{Mode}
+use Rattle.yarn_lines.specs.Lines.{without_trailing}
 use Rattle.yarn_items.specs.declared.item.Mode.TheVariants.{InHeaders}
-use Rattle.yarn_items.specs.declared.item.Header.{Header}
 use Rattle.yarn_items.specs.declared.item.Item.{Item}
 use Rattle.yarn_items.specs.declared.item.Item.TheVariants as item
-use Rattle.yarn_items.specs.declared.item.Found.{Found}
 use Rattle.yarn_items.specs.declared.item.Found.TheVariants as found
 use Rattle.yarn_items.specs.Text.{is_tag_byte, trimmed}
 use Rattle.yarn_items.specs.Item.{is_name_text, IsFileTag, IsHeader, IsForm}

@@ -1,21 +1,18 @@
 -- What is found of a command line: a jump where it has one, and else what isn't read yet.
-use Rattle.std.proofs.Common.{◌≡◌, ℕ, zero, suc, ◌+◌, ◌<◌, List, [], ◌∷◌, ◌++◌, length, take, drop, Bool, true, false, not, ◌||◌, ◌&&◌, nat_eq, Option, Some, None, ◌⊎◌, inl, inr, codes, chars, refl, sym, ap, ◌∙◌, subst, arith, append_assoc, add-one}
+use Rattle.std.proofs.Common.{◌≡◌, ℕ, List, [], ◌∷◌, ◌++◌, length, take, drop, Bool, true, false, Option, Some, None, ◌⊎◌, inl, inr, codes, chars, refl, sym, ap, ◌∙◌, arith}
 use Rattle.std.specs.List.{list_all, list_any}
 use Rattle.std.specs.Str.{is_utf8}
 use Rattle.std.proofs.lemmas.Str.{chars-nil}
 use Rattle.yarn_base.specs.Name.{is_name_of}
 use Rattle.std.proofs.lemmas.Bool.{or_parts, and_parts, and_from}
 use Rattle.std.proofs.lemmas.List.{take_at, drop_at, take-append-drop}
-use Rattle.yarn_lines.specs.Lines.{is_blank, leading, past_leading, begins_with}
-use Rattle.yarn_items.specs.declared.item.Item.{Item}
-use Rattle.yarn_items.specs.declared.item.Item.TheVariants as item
-use Rattle.yarn_items.specs.declared.item.Found.{Found}
+use Rattle.yarn_lines.specs.Lines.{is_blank, leading, past_leading}
 use Rattle.yarn_items.specs.declared.item.Found.TheVariants as found
 use Rattle.yarn_items.specs.Item.{is_name_text, HasJump}
 use Rattle.yarn_items.specs.Hashtags.{tags_of}
 use Rattle.yarn_items.specs.Body.{behind, given, past_blanks, target, is_word_byte, word_length, past_end, jump_with, jump_to, target_found, command_found}
 use Rattle.yarn_items.proofs.NameBytes.{is_out, name-bytes, in-word, in-solid}
-use Rattle.yarn_items.proofs.BlankLemmas.{leading-split, leading-blank, leading-dropped, name-solid}
+use Rattle.yarn_items.proofs.BlankLemmas.{leading-split, leading-blank, leading-dropped}
 use Rattle.yarn_items.proofs.Utf8Lemmas.{behind-only}
 
 -- A jump is found.

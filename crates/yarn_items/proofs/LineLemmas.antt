@@ -1,15 +1,13 @@
 -- What is found of a text that is neither an option nor a command: a line, or what isn't read yet.
-use Rattle.std.proofs.Common.{◌≡◌, ℕ, List, [], ◌∷◌, ◌++◌, length, take, drop, Bool, true, false, not, ◌||◌, ◌&&◌, nat_eq, Option, Some, None, ◌⊎◌, inl, inr, codes, bytes_eq, refl, sym, ap, ◌∙◌, subst}
-use Rattle.std.specs.List.{flat_map}
+use Rattle.std.proofs.Common.{◌≡◌, ℕ, List, [], ◌∷◌, ◌++◌, Bool, true, false, Option, Some, None, ◌⊎◌, inl, inr, codes, bytes_eq, refl, sym, ap, ◌∙◌, subst}
 use Rattle.std.proofs.lemmas.Bool.{or_cases, or_parts, or_from, false_from_ne_true}
 use Rattle.std.proofs.lemmas.Slice.Eq.{bytes_eq-Decides}
 use Rattle.yarn_lines.specs.Lines.{is_blank, past_leading, begins_with}
 use Rattle.yarn_items.specs.declared.item.Said.{Said}
 use Rattle.yarn_items.specs.declared.item.Item.{Item}
 use Rattle.yarn_items.specs.declared.item.Item.TheVariants as item
-use Rattle.yarn_items.specs.declared.item.Found.{Found}
 use Rattle.yarn_items.specs.declared.item.Found.TheVariants as found
-use Rattle.yarn_items.specs.Text.{Piece, Pieces, Tags, no_tag, comment, blank, tag, kept, begins_other, table_text, trimmed, has_fine_ids}
+use Rattle.yarn_items.specs.Text.{Tags, no_tag, comment, blank, tag, begins_other, table_text, trimmed, has_fine_ids}
 use Rattle.yarn_items.specs.Item.{is_option, is_command, IsLine, HasUnread}
 use Rattle.yarn_items.specs.Cut.{own_text, behind_text}
 use Rattle.yarn_items.specs.Hashtags.{tags_of}

@@ -1,5 +1,5 @@
 -- The bytes that no name has: blanks, `:`, `>` and `#`.
-use Rattle.std.proofs.Common.{◌≡◌, ℕ, ◌<◌, ◌≤◌, List, [], ◌∷◌, ◌++◌, length, get_or, Bool, true, false, not, ◌||◌, nat_eq, ◌⊎◌, inl, inr, chars, encode_utf8, encode_utf8_all, refl, sym, ap, ◌∙◌, arith, append-nil}
+use Rattle.std.proofs.Common.{◌≡◌, ℕ, ◌<◌, ◌≤◌, List, [], ◌∷◌, length, get_or, Bool, true, false, ◌||◌, nat_eq, ◌⊎◌, inl, inr, chars, encode_utf8, encode_utf8_all, refl, sym, ap, ◌∙◌, arith, append-nil}
 use Rattle.std.specs.List.{list_all, list_any}
 use Rattle.std.specs.Str.{is_utf8}
 use Rattle.std.proofs.lemmas.Bool.{eqb-true, or_cases, or_parts, or_from, and_parts, and_from, false_from_ne_true, cases_lt}

@@ -1,12 +1,11 @@
 -- The pieces of a text, up to its end.
-use Rattle.std.proofs.Common.{◌≡◌, ℕ, zero, suc, ◌+◌, List, [], ◌∷◌, ◌++◌, length, take, drop, Bool, true, false, ◌||◌, ◌&&◌, nat_eq, ◌⊎◌, inl, inr, codes, refl, sym, ap, subst, ◌∙◌, arith, add-one, append_assoc}
-use Rattle.std.specs.List.{list_all, flat_map}
+use Rattle.std.proofs.Common.{◌≡◌, ℕ, zero, suc, ◌+◌, List, [], ◌∷◌, ◌++◌, take, Bool, true, false, nat_eq, ◌⊎◌, inl, inr, refl, sym, ap, subst, ◌∙◌, arith, append_assoc}
+use Rattle.std.specs.List.{flat_map}
 use Rattle.std.proofs.lemmas.Bool.{eqb-true, and_parts}
-use Rattle.yarn_lines.specs.Lines.{is_blank, leading, past_leading, begins_with}
+use Rattle.yarn_lines.specs.Lines.{is_blank, leading, past_leading}
 use Rattle.yarn_items.specs.Text.{Piece, Char, Pair, Pieces, no_piece, pair, char, is_escaped, kept, begins_other, begins_pair, table_text, trimmed}
 use Rattle.yarn_items.specs.Cut.{text_length, unescaped, own_text, behind_text}
 use Rattle.yarn_items.proofs.CutLemmas.{behind_text-pair, behind_text-char}
-use Rattle.yarn_items.proofs.Utf8Lemmas.{begins-first}
 use Rattle.yarn_items.proofs.BlankLemmas.{blank-not, leading-blank, trimmed-blanks}
 
 -- nothing, or what is no text

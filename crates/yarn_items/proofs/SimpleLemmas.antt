@@ -1,13 +1,13 @@
 -- A simple line is the line with its own text and no hashtags.
-use Rattle.std.proofs.Common.{◌≡◌, ℕ, suc, ◌+◌, ◌≤◌, List, [], ◌∷◌, ◌++◌, length, take, drop, Bool, true, false, not, ◌||◌, ◌&&◌, nat_eq, ◌⊎◌, inl, inr, codes, bytes_eq, refl, sym, ap, ◌∙◌, arith, add-one}
+use Rattle.std.proofs.Common.{◌≡◌, ℕ, ◌+◌, List, [], ◌∷◌, ◌++◌, length, take, drop, Bool, true, false, not, nat_eq, codes, bytes_eq, refl, sym, ap, ◌∙◌, arith}
 use Rattle.std.specs.List.{list_any}
-use Rattle.std.proofs.lemmas.Bool.{eqb-true, or_parts, or_from, and_parts, false_from_ne_true}
+use Rattle.std.proofs.lemmas.Bool.{eqb-true, or_parts, or_from, false_from_ne_true}
 use Rattle.std.proofs.lemmas.List.{length-append, take_all, drop_all}
-use Rattle.yarn_lines.specs.Lines.{is_blank, past_leading, without_trailing, begins_with}
-use Rattle.yarn_items.specs.Text.{begins_other, begins_pair, is_escaped, trimmed}
+use Rattle.yarn_lines.specs.Lines.{is_blank, past_leading, without_trailing}
+use Rattle.yarn_items.specs.Text.{begins_other, begins_pair, trimmed}
 use Rattle.yarn_items.specs.Item.{is_cr, is_option, is_command}
 use Rattle.yarn_items.specs.Cut.{text_length, unescaped, own_text, behind_text}
-use Rattle.yarn_items.specs.Body.{line_found, is_no_text, body_found}
+use Rattle.yarn_items.specs.Body.{line_found, body_found}
 use Rattle.yarn_items.specs.Form.{found_of}
 use Rattle.yarn_items.specs.Simple.{is_special, is_bare, is_simple}
 use Rattle.yarn_items.specs.declared.item.Mode.TheVariants.{InBody}

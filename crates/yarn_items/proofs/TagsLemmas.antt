@@ -1,9 +1,9 @@
 -- The hashtags that are read are those that a line has.
-use Rattle.std.proofs.Common.{◌≡◌, ℕ, zero, suc, ◌+◌, ◌-◌, ◌<◌, ◌≤◌, List, [], ◌∷◌, ◌++◌, length, take, drop, Bool, true, false, not, ◌||◌, nat_eq, Option, Some, None, ◌⊎◌, inl, inr, codes, refl, sym, ap, subst, ◌∙◌, arith, add-one}
+use Rattle.std.proofs.Common.{◌≡◌, ℕ, zero, suc, ◌<◌, ◌≤◌, List, [], ◌∷◌, ◌++◌, length, take, drop, Bool, true, false, nat_eq, Option, Some, None, ◌⊎◌, inl, inr, codes, refl, sym, ap, subst, ◌∙◌, arith, add-one}
 use Rattle.std.specs.List.{list_all}
-use Rattle.std.proofs.lemmas.Bool.{eqb-true, and_parts, and_from, cases_lt}
+use Rattle.std.proofs.lemmas.Bool.{eqb-true, and_parts, cases_lt}
 use Rattle.std.proofs.lemmas.List.{take_at, drop_at, take-append-drop, length-drop}
-use Rattle.yarn_lines.specs.Lines.{is_blank, past_leading, begins_with}
+use Rattle.yarn_lines.specs.Lines.{is_blank, begins_with}
 use Rattle.yarn_items.specs.Text.{Tags, no_tag, comment, blank, tag, is_tag_byte, begins_tag_byte}
 use Rattle.yarn_items.specs.Hashtags.{tag_length, with_tag, tags_of}
 use Rattle.yarn_items.proofs.HashtagLemmas.{hashtag-none, hashtag-some, step-slashes}

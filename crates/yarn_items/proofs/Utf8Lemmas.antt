@@ -1,13 +1,13 @@
 -- Which parts of a line are UTF-8: what stands before and behind a character of ASCII, and the texts that are made of these.
-use Rattle.std.proofs.Common.{◌≡◌, ℕ, zero, suc, ◌+◌, ◌-◌, ◌<◌, ◌≤◌, List, [], ◌∷◌, ◌++◌, length, take, drop, get_or, Bool, true, false, ◌||◌, ◌&&◌, nat_eq, nat_lt, Option, Some, None, ◌⊎◌, inl, inr, codes, refl, sym, ap, subst, ◌∙◌, arith, add-one, append_assoc, append-nil, IsUtf8}
-use Rattle.std.specs.List.{list_all, list_any}
+use Rattle.std.proofs.Common.{◌≡◌, ℕ, ◌+◌, ◌-◌, ◌<◌, ◌≤◌, List, [], ◌∷◌, ◌++◌, length, take, drop, get_or, Bool, true, false, nat_eq, nat_lt, Option, Some, None, ◌⊎◌, inl, inr, codes, refl, sym, ap, subst, ◌∙◌, arith, add-one, append_assoc, append-nil, IsUtf8}
+use Rattle.std.specs.List.{list_all}
 use Rattle.std.proofs.lemmas.Bool.{eqb-true, or_cases, and_parts, ltb-true}
 use Rattle.std.proofs.lemmas.Slice.Eq.{bytes_eq-Decides}
 use Rattle.std.proofs.lemmas.List.{take_at, drop_at, take_rest, length-append, take-append-drop}
 use Rattle.std.proofs.lemmas.Str.{IsUtf8-take, IsUtf8-drop, IsUtf8-append, IsUtf8-nil, IsCharBoundary-before_ascii, IsCharBoundary-after_ascii}
 use Rattle.yarn_lines.specs.Lines.{is_blank, past_leading, without_trailing, begins_with}
-use Rattle.yarn_items.specs.Text.{Pair, is_kept, is_tag_byte, begins_other, begins_pair, is_escaped, trimmed}
-use Rattle.yarn_items.specs.Cut.{text_length, unescaped, behind_text}
+use Rattle.yarn_items.specs.Text.{is_kept, begins_other, begins_pair, is_escaped, trimmed}
+use Rattle.yarn_items.specs.Cut.{unescaped, behind_text}
 use Rattle.yarn_items.specs.Heading.{length_to_colon}
 use Rattle.yarn_items.specs.Body.{behind, given, past_blanks, target, is_word_byte, word_length, past_end}
 use Rattle.yarn_items.proofs.CutLemmas.{behind_text-begins}

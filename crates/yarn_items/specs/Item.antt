@@ -6,7 +6,6 @@ use Rattle.yarn_base.specs.Name.{is_name_of}
 use Rattle.yarn_lines.specs.Lines.{is_blank, begins_with}
 use Rattle.yarn_items.specs.declared.item.Mode.{Mode}
 use Rattle.yarn_items.specs.declared.item.Mode.TheVariants.{InHeaders, InBody}
-use Rattle.yarn_items.specs.declared.item.Header.{Header}
 use Rattle.yarn_items.specs.declared.item.Said.{Said}
 use Rattle.yarn_items.specs.declared.item.Item.{Item}
 use Rattle.yarn_items.specs.declared.item.Item.TheVariants as item

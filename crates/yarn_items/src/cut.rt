@@ -4,7 +4,7 @@ ghost use Rattle.yarn_items.specs.Text.{is_escaped, is_kept, begins_pair, begins
 ghost use Rattle.yarn_items.specs.Cut.{piece_length, text_length, unescaped};
 
 use crate::bytes::copied;
-use crate::table::is_special_byte;
+use crate::special::is_special_byte;
 use std::alloc::Global;
 use yarn_base::{Memory, Text};
 use yarn_lines::without_blanks;
@@ -100,7 +100,7 @@ fn trimmed_copy(alloc: Global, bytes: &[u8]) -> Result<Text, Memory>
 fn unescaped_in(alloc: Global, bytes: &[u8]) -> Result<Vec<u8>, Memory>
     ensures { IfOk result (λ own. own.items ≡ unescaped bytes.now) }
 {
-    let mut own = Vec::new(alloc);
+    let mut own = Vec::with_capacity(alloc, bytes.len())?;
     let mut rest = bytes;
     while !rest.is_empty() {
         let (kept, behind) = first_kept(rest);

@@ -1,8 +1,9 @@
 -- What isn't too much.
-use Rattle.std.proofs.Common.{◌≡◌, ◌≤◌, ◌<◌, ℕ, ◌+◌, List, [], ◌∷◌, length, Bool, true, false, cond, ◌||◌, nat_lt, Option, Some, None, All, refl, sym, arith}
-use Rattle.std.proofs.lemmas.Bool.{ltb-false}
-use Rattle.std.proofs.lemmas.List.Elements.{All-nil, All-cons}
+use Rattle.std.proofs.Common.{◌≡◌, ◌≤◌, ◌<◌, ℕ, ◌+◌, List, [], ◌∷◌, length, Bool, true, false, cond, ◌||◌, nat_lt, Option, Some, None, All, refl, sym, ap, arith}
+use Rattle.std.proofs.lemmas.Bool.{ltb-false, le-ltb}
+use Rattle.std.proofs.lemmas.List.Elements.{All-nil, All-cons, All-head, All-tail}
 use Rattle.yarn_base.specs.declared.SourceFile.{SourceFile}
+use Rattle.yarn_tree.specs.Laws.{total, AreNotTooMuch}
 use Rattle.yarn_tree.specs.Size.{is_big, is_too_much, too_much, big_alone}
 use Rattle.yarn_tree.specs.Splits.{IsSmall, AreFine}
 
@@ -51,3 +52,42 @@ alone_small source none = by_test (is_big source) refl
     by_test : (t : Bool) → is_big source ≡ t → IsSmall source
     by_test true is = let h = rw is at none in absurd cc
     by_test false is = ltb-false 4194304 (length source.bytes) is
+
+light : (before sum : ℕ) (sources : List SourceFile) → sum ≤ 33554432 → too_much before sum sources ≡ None → sum + total sources ≤ 33554432
+light before sum [] le none = omega arith
+light before sum (source ∷ sources) le none =
+    let here = past before sum source sources none in
+    let fine = is_fine before sum source here.0 in
+    let rest = light (before + 1) (sum + length source.bytes) sources fine.2 here.1 in
+    omega (arith, rest)
+
+pub not_too_much : (sources : List SourceFile) → too_much 0 0 sources ≡ None → AreNotTooMuch sources
+not_too_much sources none =
+    let fine = are_fine sources none in
+    record { few = fine.few; small = fine.small; light = let h = light 0 0 sources (omega arith) none in omega arith }
+
+fine-test : (before sum : ℕ) (source : SourceFile) → before ≤ 255 → IsSmall source → sum + length source.bytes ≤ 33554432 → is_too_much before sum source ≡ false
+fine-test before sum source few small light =
+    let a : nat_lt 255 before ≡ false = le-ltb 255 before few in
+    let b : nat_lt 4194304 (length source.bytes) ≡ false = le-ltb 4194304 (length source.bytes) small in
+    let c : nat_lt 33554432 (sum + length source.bytes) ≡ false = le-ltb 33554432 (sum + length source.bytes) light in
+    rw (a, b, c) refl
+
+fine-none : (before sum : ℕ) (sources : List SourceFile) → before + length sources ≤ 256 → All IsSmall sources → sum + total sources ≤ 33554432 →
+    too_much before sum sources ≡ None
+fine-none before sum [] few small light = refl
+fine-none before sum (source ∷ sources) few small light =
+    let here : is_too_much before sum source ≡ false =
+    fine-test before sum source (omega arith) (All-head IsSmall source sources small) (omega arith) in
+    rw here (fine-none (before + 1) (sum + length source.bytes) sources (omega arith) (All-tail IsSmall source sources small) (omega arith))
+
+pub none_too_much : (sources : List SourceFile) → AreNotTooMuch sources → too_much 0 0 sources ≡ None
+none_too_much sources fine =
+    let few : 0 + length sources ≤ 256 = omega (arith, fine.few) in
+    let light : 0 + total sources ≤ 33554432 = omega (arith, fine.light) in
+    fine-none 0 0 sources few fine.small light
+
+pub small-alone : (source : SourceFile) → IsSmall source → big_alone source ≡ None
+small-alone source small =
+    let e : is_big source ≡ false = le-ltb 4194304 (length source.bytes) small in
+    ap (λ (t : Bool). cond t (Some (record { file = 0; line = 0 })) None) e

@@ -1,6 +1,8 @@
 -- The refusals that are found in trees: too many nodes, titles, jumps and ids (docs/language.md, Refusals of a project).
-use Rattle.std.specs.Prelude.{ℕ, ◌-◌, List, [], ◌∷◌, ◌++◌, length, slice_get, Bool, if◌then◌else◌, Option, Some, None}
+use Rattle.std.specs.Prelude.{ℕ, ◌-◌, List, [], ◌∷◌, ◌++◌, length, slice_get, nat_lt, Bool, false, ◌||◌, if◌then◌else◌, Option, Some, None}
+use Rattle.std.specs.List.{list_any}
 use Rattle.yarn_base.specs.declared.Place.{Place}
+use Rattle.yarn_items.specs.Text.{is_id}
 use Rattle.yarn_tree.specs.declared.draft.Titled.{Titled}
 use Rattle.yarn_tree.specs.declared.stages.FileRead.{FileRead}
 use Rattle.yarn_tree.specs.declared.stages.Note.{Note}
@@ -72,3 +74,21 @@ ids_of (read ∷ reads) = ids_within read.number read.file.nodes ++ ids_of reads
 
 abbrev pub ids_seen : List FileRead → Sight
 ids_seen reads = sees_all no_sight (ids_of reads)
+
+-- a line of the body has a hashtag that is an id
+abbrev pub own_in : List Stmt → Bool
+own_in [] = false
+own_in (Line said ∷ body) = list_any is_id said.tags || own_in body
+own_in (Jump head name ∷ body) = own_in body
+
+-- a node whose ids may be those of other lines: it has an id of its own, or more lines than are counted here
+abbrev pub is_own : Node → Bool
+is_own node = nat_lt 4294967295 (length node.body) || own_in node.body
+
+abbrev pub own_within : List Node → Bool
+own_within [] = false
+own_within (node ∷ nodes) = is_own node || own_within nodes
+
+abbrev pub own_of : List FileRead → Bool
+own_of [] = false
+own_of (read ∷ reads) = own_within read.file.nodes || own_of reads

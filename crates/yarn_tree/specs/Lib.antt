@@ -1,6 +1,7 @@
 pub mod Body
 pub mod Checks
 pub mod Finds
+pub mod Laws
 pub mod Names
 pub mod Nodes
 pub mod Places

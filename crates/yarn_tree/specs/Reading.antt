@@ -85,6 +85,14 @@ file_reading_of file =
     (unless LineTooLong (at_file 0 (long_in file))
     (split_read (split_of 0 file))))
 
+-- trees that are read of files, where each line and title is fine and titles differ
+pub record AreNamed (reads : List FileRead) : Type 0 where
+  pub splits : List SplitFile
+  pub is : reads ≡ map (file_of true) splits
+  pub placed : first_place (noted_in Misplaced) reads ≡ None
+  pub titled : first_place (noted_in Mistitled) reads ≡ None
+  pub differ : (titles_seen reads).again ≡ None
+
 -- the fault of a reading; want of memory may be answered for any
 abbrev pub IsFault : {A : Type 0} → Reading A → ProjectFault → Type 0
 IsFault reading (Refused refusal) = reading ≡ Refuses refusal.kind refusal.place

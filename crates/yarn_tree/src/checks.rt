@@ -1,10 +1,11 @@
 //! The refusals that are found once all lines are read.
 ghost use Rattle.std.specs.Prelude.{◌≡◌, slice_get, IfOk, OnOk};
-ghost use Rattle.yarn_tree.specs.Checks.{noted_in, extra_node, begun_at, titles_in, titles_seen, ids_in, ids_within, ids_seen};
+ghost use Rattle.yarn_tree.specs.Checks.{noted_in, extra_node, begun_at, titles_in, titles_seen, ids_in, ids_within, ids_seen, own_in, is_own, own_within, own_of};
 ghost use Rattle.yarn_tree.specs.Names.{sees_all, sight_of};
 ghost use Rattle.yarn_tree.specs.Places.{first_place};
 
 use crate::draft::Titled;
+use crate::ids::has_id_tag;
 use crate::names::Seen;
 use crate::stages::{FileRead, Note};
 use crate::{Node, Stmt};
@@ -12,6 +13,7 @@ use std::alloc::Global;
 use yarn_base::{Memory, Place};
 
 const MOST_NODES: usize = 65536;
+const MOST_COUNTED: usize = 4294967295;
 
 /// The first place that was noted of the files.
 pub(crate) fn first_noted(note: Note, reads: &[FileRead]) -> Option<Place>
@@ -78,6 +80,48 @@ fn see_titles_in<'a>(seen: &mut Seen<'a>, file: u32, titles: &'a [Titled]) -> Re
         seen.see(titled.title.as_str(), place)?;
     }
     Ok(())
+}
+
+/// Whether a line may have an id that isn't its node's title and its place in the node.
+pub(crate) fn has_own_ids(reads: &[FileRead]) -> bool
+    ensures { result ≡ own_of reads.now }
+{
+    for read in reads {
+        if has_own_within(read.file.nodes.as_slice()) {
+            return true;
+        }
+    }
+    false
+}
+
+fn has_own_within(nodes: &[Node]) -> bool
+    ensures { result ≡ own_within nodes.now }
+{
+    for node in nodes {
+        if has_own(node) {
+            return true;
+        }
+    }
+    false
+}
+
+fn has_own(node: &Node) -> bool
+    ensures { result ≡ is_own node.now }
+{
+    node.body.len() > MOST_COUNTED || has_own_in(node.body.as_slice())
+}
+
+fn has_own_in(body: &[Stmt]) -> bool
+    ensures { result ≡ own_in body.now }
+{
+    for statement in body {
+        if let Stmt::Line(said) = statement
+            && has_id_tag(said.tags.as_slice())
+        {
+            return true;
+        }
+    }
+    false
 }
 
 /// The place of the first id that an earlier line has.

@@ -1,5 +1,6 @@
 //! The ids of lines.
 ghost use Rattle.std.specs.Prelude.{◌≡◌, IfOk, OnOk};
+ghost use Rattle.std.specs.List.{list_any};
 ghost use Rattle.yarn_items.specs.Text.{is_id};
 ghost use Rattle.yarn_tree.specs.Body.{line_id, id_among};
 ghost use Rattle.yarn_tree.specs.Nodes.{id_given};
@@ -34,6 +35,18 @@ fn id_in(alloc: Global, tags: &[Text], title: &str, before: u64) -> Result<Text,
         }
     }
     line_id_for(alloc, title, before)
+}
+
+/// Whether one of the hashtags is an id.
+pub(crate) fn has_id_tag(tags: &[Text]) -> bool
+    ensures { result ≡ list_any is_id tags.now }
+{
+    for tag in tags {
+        if is_id_tag(tag.as_str()) {
+            return true;
+        }
+    }
+    false
 }
 
 fn is_id_tag(tag: &str) -> bool

@@ -5,6 +5,7 @@ mod checks;
 mod draft;
 mod ids;
 mod jumps;
+pub mod laws;
 mod names;
 mod print;
 mod print_laws;

@@ -4,9 +4,9 @@ ghost use Rattle.yarn_tree.specs.declared.refusal.RefusalKind.TheVariants as kin
 ghost use Rattle.yarn_tree.specs.Places.{first_place};
 ghost use Rattle.yarn_tree.specs.Size.{too_much, big_alone};
 ghost use Rattle.yarn_tree.specs.Reader.{unbuilt_in, file_of};
-ghost use Rattle.yarn_tree.specs.Reading.{Answers, IsFault, IsTold, no_fault, reading_of, file_reading_of, splits_read, split_read, reads_checked, titles_checked, ids_checked, project_of};
+ghost use Rattle.yarn_tree.specs.Reading.{Answers, IsFault, IsTold, no_fault, reading_of, file_reading_of, splits_read, split_read, reads_checked, titles_checked, ids_checked, project_of, AreNamed};
 
-use crate::checks::{extra_node_in, first_noted, second_id, see_titles};
+use crate::checks::{extra_node_in, first_noted, has_own_ids, second_id, see_titles};
 use crate::jumps::unknown_among;
 use crate::reader::read_lines;
 use crate::size::{too_much_alone, too_much_in};
@@ -112,9 +112,15 @@ fn test_titles(alloc: Global, reads: &[FileRead]) -> Result<(), ProjectFault>
     refuse_at(RefusalKind::UnknownNode, unknown_among(&seen.names, reads))
 }
 
+// Where no line has an id of its own, the ids differ since the titles do.
+#[tactic(auto, using(crate::proofs::CountedLemmas::named_plain))]
 fn test_ids(alloc: Global, reads: &[FileRead]) -> Result<(), ProjectFault>
+    requires { AreNamed reads.now }
     ensures { MatchResult result (λ _. ids_checked reads.now no_fault ≡ no_fault) (λ fault. IsFault (ids_checked reads.now no_fault) fault) }
 {
+    if !has_own_ids(reads) {
+        return Ok(());
+    }
     match second_id(alloc, reads) {
         Ok(again) => refuse_at(RefusalKind::DuplicateLineId, again),
         Err(_) => Err(ProjectFault::Memory),

@@ -1,5 +1,4 @@
-use Rattle.std.proofs.Common.{ap, sym, subst, ◌∙◌}
-use Rattle.yarn_lines.specs.Lines.{past_leading}
+use Rattle.std.proofs.Common.{subst}
 use Rattle.yarn_items.specs.Step.{IsStep}
 use Rattle.yarn_items.proofs.HashtagLemmas.{step-leading}
 use Rattle.yarn_items.proofs.Utf8Lemmas.{past_leading-utf8, past_leading-solid}

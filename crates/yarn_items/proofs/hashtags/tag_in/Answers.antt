@@ -1,4 +1,4 @@
-use Rattle.std.proofs.Common.{◌≡◌, ◌<◌, List, ℕ, length, take, drop, IsUtf8, sym, subst, ap, ◌∙◌, arith}
+use Rattle.std.proofs.Common.{length, take, drop, IsUtf8, sym, subst, ap, ◌∙◌, arith}
 use Rattle.std.proofs.lemmas.List.{take_rest, length-drop}
 use Rattle.yarn_items.specs.Hashtags.{with_tag, tags_of}
 use Rattle.yarn_items.proofs.HashtagLemmas.{hashtag-none, hashtag-some, hashtag-behind}

@@ -1,4 +1,4 @@
-use Rattle.std.proofs.Common.{◌+◌, length, drop, ap, ◌∙◌}
+use Rattle.std.proofs.Common.{◌+◌, ap, ◌∙◌}
 use Rattle.std.proofs.lemmas.List.{take_rest}
 use Rattle.yarn_items.specs.Text.{trimmed}
 use Rattle.yarn_items.proofs.Utf8Lemmas.{value-utf8}

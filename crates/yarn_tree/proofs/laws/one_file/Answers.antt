@@ -1,0 +1,5 @@
+use Rattle.yarn_tree.proofs.LawLemmas.{one_file}
+use Rattle.yarn_tree.proofs.laws.one_file.Goals as goal
+
+pub returns : goal.returns
+returns c = one_file c.requires.items

@@ -1,0 +1,5 @@
+use Rattle.yarn_tree.proofs.LawLemmas.{one_project}
+use Rattle.yarn_tree.proofs.laws.one_project.Goals as goal
+
+pub returns : goal.returns
+returns c = one_project c.requires.items

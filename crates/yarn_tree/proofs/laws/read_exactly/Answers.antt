@@ -1,0 +1,5 @@
+use Rattle.yarn_tree.proofs.LawLemmas.{exactly}
+use Rattle.yarn_tree.proofs.laws.read_exactly.Goals as goal
+
+pub returns : goal.returns
+returns c = exactly c.requires.items
