@@ -6,8 +6,6 @@ use yarn_base::{List, Memory, MemoryFiles, MemorySink, MemorySource, Text, Words
 
 const HELLO: &str = "title: Start\n---\nHello\n===\n";
 
-const TWO_LINES: &str = "title: Start\n---\nHello\nBye\n===\n";
-
 const LOOP: &str = "title: Loop\n---\nAgain\n<<jump Loop>>\n===\n";
 
 const PAIR: &str =
@@ -592,60 +590,45 @@ fn several_files_are_one_project(rt: HostRuntime) -> Result<(), Fail> {
     Ok(())
 }
 
+// The call that fails.
+#[derive(Clone, Copy, Debug)]
+enum Fails {
+    Read(u64),
+    Output,
+    Message,
+}
+
+impl Outside {
+    fn fail(&mut self, call: Fails) -> Result<(), Memory> {
+        match call {
+            Fails::Read(nth) => self.files.fail_read(nth),
+            Fails::Output => self.out.fail(1),
+            Fails::Message => self.err.fail(1),
+        }
+    }
+}
+
+/// A run over `a.yarn` with that text: the call that fails, the words, and how it ends.
+type FailsCase<'a> = (Fails, &'a str, &'a [&'a str], u8, &'a str);
+
 #[test]
 fn a_call_that_fails_is_told(rt: HostRuntime) -> Result<(), Fail> {
     let alloc = rt.alloc();
-    let play = words_of(alloc, &["play", "a.yarn", "b.yarn"])?;
-    let format = words_of(alloc, &["format", "a.yarn"])?;
-
-    let mut to = make_outside(alloc, TWO_LINES, OTHER)?;
-    to.files.fail_read(1)?;
-    let status = run(alloc, &play, &mut to);
-    expect(
-        &rt,
-        "first read",
-        (6, "", "cannot read a.yarn\n"),
-        status,
-        &to,
-    );
-
-    let mut to = make_outside(alloc, "hello\n", OTHER)?;
-    to.files.fail_read(2)?;
-    let status = run(alloc, &play, &mut to);
-    expect(
-        &rt,
-        "second read",
-        (6, "", "cannot read b.yarn\n"),
-        status,
-        &to,
-    );
-
-    let mut to = make_outside(alloc, TWO_LINES, OTHER)?;
-    to.out.fail(1)?;
-    let status = run(alloc, &play, &mut to);
-    expect(
-        &rt,
-        "first write",
-        (7, "", "cannot write output\n"),
-        status,
-        &to,
-    );
-
-    let mut to = make_outside(alloc, TWO_LINES, OTHER)?;
-    to.out.fail(1)?;
-    let status = run(alloc, &format, &mut to);
-    expect(
-        &rt,
-        "write of format",
-        (7, "", "cannot write output\n"),
-        status,
-        &to,
-    );
-
-    let mut to = make_outside(alloc, "hello\n", OTHER)?;
-    to.err.fail(1)?;
-    let status = run(alloc, &format, &mut to);
-    expect(&rt, "write of the message", (7, "", ""), status, &to);
+    let play: &[&str] = &["play", "a.yarn", "b.yarn"];
+    let format: &[&str] = &["format", "a.yarn"];
+    let cases: [FailsCase; 5] = [
+        (Fails::Read(1), TO_OTHER, play, 6, "cannot read a.yarn\n"),
+        (Fails::Read(2), "hello\n", play, 6, "cannot read b.yarn\n"),
+        (Fails::Output, TO_OTHER, play, 7, "cannot write output\n"),
+        (Fails::Output, TO_OTHER, format, 7, "cannot write output\n"),
+        (Fails::Message, "hello\n", format, 7, ""),
+    ];
+    for (call, text, words, number, err) in cases {
+        let mut to = make_outside(alloc, text, OTHER)?;
+        to.fail(call)?;
+        let status = run(alloc, &words_of(alloc, words)?, &mut to);
+        expect(&rt, err, (number, "", err), status, &to);
+    }
     Ok(())
 }
 
@@ -680,73 +663,67 @@ fn long_file(alloc: Global) -> Result<List<u8>, Memory> {
     Ok(List::from_vec(doubled(alloc, comment, 6)?))
 }
 
+// The file `a.yarn` that is tried.
+#[derive(Clone, Copy, Debug)]
+enum Size {
+    Empty,
+    Largest,
+    TooLarge,
+}
+
+fn sized(alloc: Global, size: Size) -> Result<List<u8>, Memory> {
+    match size {
+        Size::Empty => Ok(List::new(alloc)),
+        Size::Largest => long_file(alloc),
+        Size::TooLarge => {
+            let mut bytes = long_file(alloc)?;
+            bytes.push(b'\n').map_err(|_| Memory)?;
+            Ok(bytes)
+        }
+    }
+}
+
+/// A run over so many times `a.yarn` of that size, and a last file; `b.yarn` has that text.
+type SizeCase<'a> = (u32, Size, &'a str, &'a str, u8, &'a str);
+
 #[test]
 fn too_much_is_told(rt: HostRuntime) -> Result<(), Fail> {
     let alloc = rt.alloc();
-    let mut to = make_outside(alloc, "", "hello\n")?;
-    let status = run(alloc, &play_often(alloc, 256, "b.yarn")?, &mut to);
-    expect(
-        &rt,
-        "257 files",
-        (2, "", "b.yarn:0: TooMuch\n"),
-        status,
-        &to,
-    );
-
-    let mut to = make_outside(alloc, "", "hello\n")?;
-    let status = run(alloc, &play_often(alloc, 255, "b.yarn")?, &mut to);
-    expect(
-        &rt,
-        "256 files",
-        (2, "", "b.yarn:1: BadLine\n"),
-        status,
-        &to,
-    );
-
-    let mut to = make_outside(alloc, "hello\n", "")?;
-    let status = run(alloc, &play_often(alloc, 256, "no.yarn")?, &mut to);
-    expect(
-        &rt,
-        "257th is missing",
-        (6, "", "cannot read no.yarn\n"),
-        status,
-        &to,
-    );
-
-    let mut to = make_outside(alloc, "hello\n", "\n")?;
-    to.put(alloc, "a.yarn", long_file(alloc)?)?;
-    let status = run(alloc, &play_often(alloc, 8, "b.yarn")?, &mut to);
-    expect(
-        &rt,
-        "one byte past all",
-        (2, "", "b.yarn:0: TooMuch\n"),
-        status,
-        &to,
-    );
-
-    let mut to = make_outside(alloc, "hello\n", "")?;
-    to.put(alloc, "a.yarn", long_file(alloc)?)?;
-    let status = run(alloc, &play_often(alloc, 8, "b.yarn")?, &mut to);
-    expect(
-        &rt,
-        "as large as may be",
-        (12, "", "no node Start\n"),
-        status,
-        &to,
-    );
-
-    let mut long = long_file(alloc)?;
-    long.push(b'\n').map_err(|_| Memory)?;
-    let mut to = make_outside(alloc, "", "hello\n")?;
-    to.put(alloc, "a.yarn", long)?;
-    let status = run(alloc, &play_often(alloc, 1, "b.yarn")?, &mut to);
-    expect(
-        &rt,
-        "one byte past a file",
-        (2, "", "a.yarn:0: TooMuch\n"),
-        status,
-        &to,
-    );
+    let cases: [SizeCase; 6] = [
+        (
+            256,
+            Size::Empty,
+            "b.yarn",
+            "hello\n",
+            2,
+            "b.yarn:0: TooMuch\n",
+        ),
+        (
+            255,
+            Size::Empty,
+            "b.yarn",
+            "hello\n",
+            2,
+            "b.yarn:1: BadLine\n",
+        ),
+        (256, Size::Empty, "no.yarn", "", 6, "cannot read no.yarn\n"),
+        (8, Size::Largest, "b.yarn", "\n", 2, "b.yarn:0: TooMuch\n"),
+        (8, Size::Largest, "b.yarn", "", 12, "no node Start\n"),
+        (
+            1,
+            Size::TooLarge,
+            "b.yarn",
+            "hello\n",
+            2,
+            "a.yarn:0: TooMuch\n",
+        ),
+    ];
+    for (often, size, last, text, number, err) in cases {
+        let mut to = make_outside(alloc, "", text)?;
+        to.put(alloc, "a.yarn", sized(alloc, size)?)?;
+        let status = run(alloc, &play_often(alloc, often, last)?, &mut to);
+        expect(&rt, err, (number, "", err), status, &to);
+    }
     Ok(())
 }
 
@@ -762,18 +739,12 @@ fn long_name(alloc: Global, bytes: u32) -> Result<String, Memory> {
 #[test]
 fn a_name_has_at_most_65536_bytes(rt: HostRuntime) -> Result<(), Fail> {
     let alloc = rt.alloc();
-    let name = long_name(alloc, 65536)?;
-    let mut to = make_outside(alloc, HELLO, "")?;
-    to.put(alloc, name.as_str(), bytes_of(alloc, HELLO)?)?;
-    let words = words_of(alloc, &["play", name.as_str()])?;
-    let status = run(alloc, &words, &mut to);
-    expect(&rt, "65536", (0, "Hello\n", ""), status, &to);
-
-    let longer = long_name(alloc, 65537)?;
-    let mut to = make_outside(alloc, HELLO, "")?;
-    to.put(alloc, longer.as_str(), bytes_of(alloc, HELLO)?)?;
-    let words = words_of(alloc, &["play", longer.as_str()])?;
-    let status = run(alloc, &words, &mut to);
-    expect(&rt, "65537", (5, "", USAGE), status, &to);
+    for (bytes, number, out, err) in [(65536, 0u8, "Hello\n", ""), (65537, 5, "", USAGE)] {
+        let name = long_name(alloc, bytes)?;
+        let mut to = make_outside(alloc, HELLO, "")?;
+        to.put(alloc, name.as_str(), bytes_of(alloc, HELLO)?)?;
+        let status = run(alloc, &words_of(alloc, &["play", name.as_str()])?, &mut to);
+        expect(&rt, "a long name", (number, out, err), status, &to);
+    }
     Ok(())
 }

@@ -24,7 +24,7 @@ use Rattle.yarn_expr.proofs.Shown.{one, AreKept, IsShown, IsFree, IsBetween, are
 use Rattle.yarn_expr.proofs.Tokenizing.{ahead}
 use Rattle.yarn_expr.proofs.Printed.{operator_token, prefix_token}
 
-between-ascii : (bytes : List ℕ) (ts : List Token) → are_ascii bytes ≡ true → AreKept ts → ((rest : List ℕ) → tokens_of (bytes ++ rest) ≡ ahead ts (tokens_of rest)) → ((rest : List ℕ) → Stops (bytes ++ rest)) → IsBetween bytes ts
+pub between-ascii : (bytes : List ℕ) (ts : List Token) → are_ascii bytes ≡ true → AreKept ts → ((rest : List ℕ) → tokens_of (bytes ++ rest) ≡ ahead ts (tokens_of rest)) → ((rest : List ℕ) → Stops (bytes ++ rest)) → IsBetween bytes ts
 between-ascii bytes ts ascii kept lexed stops = record { letters = bytes; scalar = ascii-scalar bytes ascii; spelt = ascii-spelt bytes ascii; kept = kept; lexed = lexed; stops = stops }
 
 free-ascii : (bytes : List ℕ) (ts : List Token) → are_ascii bytes ≡ true → AreKept ts → ((rest : List ℕ) → tokens_of (bytes ++ rest) ≡ ahead ts (tokens_of rest)) → IsFree bytes ts
@@ -79,10 +79,10 @@ spaced-two c d s small low begins is =
     between-ascii (32 ∷ c ∷ d ∷ 32 ∷ []) (token.Sign s ∷ []) (rw (small, low) refl) (sign-kept s) (λ rest. spaced c (d ∷ 32 ∷ rest) rest (token.Sign s) b.blank (two-next c d s b is (32 ∷ rest))) (λ rest. blank-stops (c ∷ d ∷ 32 ∷ rest))
 
 -- letters that are plain
-abbrev is_letter : ℕ → Bool
+abbrev pub is_letter : ℕ → Bool
 is_letter c = nat_lt c 128 && is_ascii_alphanumeric c
 
-letters-continue : (cs : List ℕ) → list_all is_letter cs ≡ true → AllOf continues_name cs
+pub letters-continue : (cs : List ℕ) → list_all is_letter cs ≡ true → AllOf continues_name cs
 letters-continue [] e = tt
 letters-continue (c ∷ cs) e =
     let both = and_parts _ (list_all is_letter cs) e in
@@ -109,10 +109,10 @@ false-word : IsWordOf 102 (97 ∷ 108 ∷ 115 ∷ 101 ∷ [])
 false-word = record { digit = refl; quote = refl; dollar = refl; blank = refl; starts = rw (is_xid_start-ascii 102 (omega arith)) refl; continues = letters-continue (97 ∷ 108 ∷ 115 ∷ 101 ∷ []) refl }
 
 -- a word of plain letters, as its bytes
-ascii-next : (c : ℕ) (cs rest : List ℕ) → IsWordOf c cs → are_ascii (c ∷ cs) ≡ true → Stops rest → next_token (c ∷ (cs ++ rest)) ≡ Some (record { token = token.Word (c ∷ cs); rest = rest })
+pub ascii-next : (c : ℕ) (cs rest : List ℕ) → IsWordOf c cs → are_ascii (c ∷ cs) ≡ true → Stops rest → next_token (c ∷ (cs ++ rest)) ≡ Some (record { token = token.Word (c ∷ cs); rest = rest })
 ascii-next c cs rest w ascii ends = word-next c cs rest w ends ∙ ap (λ l. Some (record { token = token.Word l; rest = rest })) (sym (ascii-spelt (c ∷ cs) ascii))
 
-spaced-word : (c : ℕ) (cs : List ℕ) → IsWordOf c cs → are_ascii (c ∷ cs) ≡ true → are_ascii (32 ∷ c ∷ (cs ++ 32 ∷ [])) ≡ true → ((rest : List ℕ) → (32 ∷ c ∷ (cs ++ 32 ∷ [])) ++ rest ≡ 32 ∷ c ∷ (cs ++ 32 ∷ rest)) →
+pub spaced-word : (c : ℕ) (cs : List ℕ) → IsWordOf c cs → are_ascii (c ∷ cs) ≡ true → are_ascii (32 ∷ c ∷ (cs ++ 32 ∷ [])) ≡ true → ((rest : List ℕ) → (32 ∷ c ∷ (cs ++ 32 ∷ [])) ++ rest ≡ 32 ∷ c ∷ (cs ++ 32 ∷ rest)) →
     IsBetween (32 ∷ c ∷ (cs ++ 32 ∷ [])) (token.Word (c ∷ cs) ∷ [])
 spaced-word c cs w ascii all same =
     between-ascii (32 ∷ c ∷ (cs ++ 32 ∷ [])) (token.Word (c ∷ cs) ∷ []) all (word-kept (c ∷ cs))
@@ -142,7 +142,7 @@ prefix-free Not =
     (λ rest. one 110 (111 ∷ 116 ∷ 32 ∷ rest) (record { token = token.Word (codes "not"); rest = 32 ∷ rest }) refl (ascii-next 110 (111 ∷ 116 ∷ []) (32 ∷ rest) not-word refl (blank-stops rest))
     ∙ ap (ahead (token.Word (codes "not") ∷ [])) (tokens_of-blank 32 rest refl))
 
-plain-word : (c : ℕ) (cs : List ℕ) → IsWordOf c cs → are_ascii (c ∷ cs) ≡ true → IsShown (c ∷ cs) (token.Word (c ∷ cs) ∷ [])
+pub plain-word : (c : ℕ) (cs : List ℕ) → IsWordOf c cs → are_ascii (c ∷ cs) ≡ true → IsShown (c ∷ cs) (token.Word (c ∷ cs) ∷ [])
 plain-word c cs w ascii = record {
   letters = c ∷ cs;
   scalar = ascii-scalar (c ∷ cs) ascii;

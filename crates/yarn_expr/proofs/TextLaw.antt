@@ -63,7 +63,7 @@ escape-scalars (c ∷ cs) h = let both = and_parts _ (all_scalars cs) h in by_te
     by_test more true is = rw is more
     by_test more false is = rw is more
 
-string-shown : (text : List ℕ) → IsUtf8 text → IsShown (string_text text) (token.Str text ∷ [])
+pub string-shown : (text : List ℕ) → IsUtf8 text → IsShown (string_text text) (token.Str text ∷ [])
 string-shown text utf8 =
     let inner = escape (chars text) in
     let quote : codes "\"" ≡ encode_utf8_all (34 ∷ []) = ascii-spelt (34 ∷ []) refl in
@@ -95,7 +95,7 @@ digits-scalar : (ds : List ℕ) → AllOf is_digit ds → all_scalars ds ≡ tru
 digits-scalar [] all = refl
 digits-scalar (c ∷ ds) all = let range = digit-range c all.0 in and_from _ _ (low_scalar c (omega arith)) (digits-scalar ds all.1)
 
-number-shown : (n : ℕ) → n < 2 ^ 63 → IsShown (decimal n) (token.Number (decimal n) ∷ [])
+pub number-shown : (n : ℕ) → n < 2 ^ 63 → IsShown (decimal n) (token.Number (decimal n) ∷ [])
 number-shown n lt = by_first (decimal n) refl
   where
     spelt-decimal : decimal n ≡ encode_utf8_all (decimal n)
@@ -143,7 +143,7 @@ in-brackets : (inner : List Token) → AllTokens (opening ∷ (inner ++ closing 
 in-brackets inner all = (AllTokens-append inner (closing ∷ []) all.1).0
 
 mutual
-  fits : (t : Tree) (ts : List Token) → Spells t ts → AllTokens ts → Fits t
+  pub fits : (t : Tree) (ts : List Token) → Spells t ts → AllTokens ts → Fits t
   fits (Leaf t) ts s all = ((all-as ts (t ∷ []) s.alone all).0, s.operand)
   fits (Group e) ts s all = fits e s.inner s.spelled (in-brackets s.inner (all-as ts _ s.split all))
   fits (Call name es) ts s all =
@@ -190,7 +190,7 @@ call-shown name bytes ts w s =
     (between-then (codes "(") (bytes ++ codes ")") (opening ∷ []) (ts ++ closing ∷ []) open-between inside)
 
 mutual
-  shown : (t : Tree) → Fits t → IsShown (canonical (expr_of t)) (written (printed t))
+  pub shown : (t : Tree) → Fits t → IsShown (canonical (expr_of t)) (written (printed t))
   shown (Leaf t) f = leaf-shown t f.0 f.1
   shown (Group e) f =
       as_written (expr_of (Group e)) _ (written (printed (Group e))) (at_group (List ℕ) text_step (expr_of e)) (group-shown (canonical (expr_of e)) (written (printed e)) (shown e f))

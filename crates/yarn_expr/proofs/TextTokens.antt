@@ -64,7 +64,7 @@ scalars-front p (c ∷ cs) h = by_test (scalars-head c cs (front p cs) h (scalar
     by_test more true is = rw is more
     by_test more false is = rw is refl
 
-scalars-past : (p : ℕ → Bool) (cs : List ℕ) → all_scalars cs ≡ true → all_scalars (past p cs) ≡ true
+pub scalars-past : (p : ℕ → Bool) (cs : List ℕ) → all_scalars cs ≡ true → all_scalars (past p cs) ≡ true
 scalars-past p [] h = refl
 scalars-past p (c ∷ cs) h = by_test (scalars-past p cs (scalars-tail c cs h)) (p c) refl
   where
@@ -72,7 +72,7 @@ scalars-past p (c ∷ cs) h = by_test (scalars-past p cs (scalars-tail c cs h)) 
     by_test more true is = rw is more
     by_test more false is = rw is h
 
-past-starts : (p : ℕ → Bool) (cs ds : List ℕ) (c : ℕ) → past p cs ≡ c ∷ ds → p c ≡ false
+pub past-starts : (p : ℕ → Bool) (cs ds : List ℕ) (c : ℕ) → past p cs ≡ c ∷ ds → p c ≡ false
 past-starts p [] ds c e = cc
 past-starts p (x ∷ cs) ds c e = by_test (past-starts p cs ds c) (p x) refl
   where
@@ -206,7 +206,7 @@ sign-read (c ∷ d ∷ cs) n h e = by_two (two_signs c d) e
     by_two None e = signed-read (d ∷ cs) (one_sign c) n later e
     by_two (Some s) e = signed-read cs (Some s) n (scalars-tail d cs later) e
 
-next-read : (c : ℕ) (cs : List ℕ) (n : Next) → is_blank c ≡ false → all_scalars (c ∷ cs) ≡ true → next_token (c ∷ cs) ≡ Some n → IsRead n
+pub next-read : (c : ℕ) (cs : List ℕ) (n : Next) → is_blank c ≡ false → all_scalars (c ∷ cs) ≡ true → next_token (c ∷ cs) ≡ Some n → IsRead n
 unfolding next_token
 next-read c cs n blank h e = by_digit (is_digit c) refl
   where

@@ -35,13 +35,15 @@ fn kept(expr: Expr, tokens: &[Token]) -> Result<Expr, ExprFault>
     }
 }
 
-fn has_fraction(tokens: &[Token]) -> bool
+/// Whether one of the tokens is a number with a fraction.
+pub fn has_fraction(tokens: &[Token]) -> bool
     ensures { result ≡ list_any fraction_is tokens.now }
 {
     tokens.iter().any(is_fraction)
 }
 
-fn has_large(tokens: &[Token]) -> bool
+/// Whether one of the tokens is a number above 9223372036854775807.
+pub fn has_large(tokens: &[Token]) -> bool
     ensures { result ≡ list_any large_is tokens.now }
 {
     tokens.iter().any(is_large)

@@ -4,7 +4,7 @@ ghost use Rattle.yarn_expr.specs.Plain.{value_after, number_of};
 
 /// The number that the digits write, if it is at most 9223372036854775807.
 #[tactic(auto, unfolding(crate::specs::Plain::number_of))]
-pub(crate) fn number(digits: &str) -> Option<u64>
+pub fn number(digits: &str) -> Option<u64>
     ensures exact { result ≡ number_of digits.now }
     ensures small { IfSome result (λ n. n < 2 ^ 63) }
 {

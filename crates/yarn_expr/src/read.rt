@@ -311,7 +311,7 @@ fn read_some_arguments<'a>(
 
 /// The tree that the tokens are, all of them.
 #[tactic(auto, unfolding(crate::specs::Reading::read_all))]
-pub(crate) fn read_all(alloc: Global, tokens: &[Token]) -> Result<Expr, Refusal>
+pub fn read_all(alloc: Global, tokens: &[Token]) -> Result<Expr, Refusal>
     ensures { Gives (λ expr. expr) result (all_of tokens.now) }
 {
     let part = read_level(alloc, 64, 6, tokens)?;

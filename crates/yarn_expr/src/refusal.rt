@@ -6,8 +6,10 @@ use yarn_base::Memory;
 
 /// Why no part was read.
 #[derive(Debug, Drop)]
-pub(crate) enum Refusal {
+pub enum Refusal {
+    /// The text or the tokens are no such part.
     NotExpr,
+    /// Memory ran out. They may be right.
     Memory,
 }
 

@@ -6,15 +6,18 @@ ghost use Rattle.yarn_base.specs.Name.{starts_name as starts_name_of, continues_
 
 /// What a run of characters is made of.
 #[derive(Clone, Copy, Debug, PartialEq, Eq)]
-pub(crate) enum Class {
+pub enum Class {
+    /// Spaces and tabs.
     Blank,
+    /// Decimal digits.
     Digit,
+    /// Characters that may continue a name.
     Name,
 }
 
 /// The first character, and what stands behind it.
 #[tactic(auto, using(std::proofs::lemmas::Str::chars_past_char))]
-pub(crate) fn first_char(text: &str) -> Option<(char, &str)>
+pub fn first_char(text: &str) -> Option<(char, &str)>
     ensures chars { MatchOption result (chars text.now ≡ []) (λ p. chars text.now ≡ p.0 ∷ chars p.1.now) }
     ensures bytes { MatchOption result (text.now ≡ []) (λ p. text.now ≡ encode_utf8 p.0 ++ p.1.now) }
     ensures utf8 { IfSome result (λ p. IsUtf8 p.1.now) }
@@ -44,7 +47,7 @@ fn passes(class: Class, c: char) -> bool
 }
 
 /// The longest front of characters of a class, and the rest.
-pub(crate) fn cut(class: Class, text: &str) -> (&str, &str)
+pub fn cut(class: Class, text: &str) -> (&str, &str)
     ensures front { result.0.now ≡ encode_utf8_all (front (class_passes class) (chars text.now)) }
     ensures rest { chars result.1.now ≡ past (class_passes class) (chars text.now) }
     ensures utf8 { IsUtf8 result.1.now }

@@ -15,8 +15,10 @@ use yarn_base::{List, Memory, Text};
 
 /// A token, and the text after it.
 #[derive(Drop)]
-pub(crate) struct Step<'a> {
+pub struct Step<'a> {
+    /// The token.
     pub token: Token,
+    /// What stands behind it.
     pub rest: &'a str,
 }
 
@@ -250,9 +252,9 @@ fn read_string(alloc: Global, text: &str) -> Result<Step<'_>, Refusal>
     }
 }
 
-/// The longest token at the front.
+/// The longest token at the front, before which no blank stands.
 #[tactic(auto, unfolding(crate::specs::Tokens::next_token))]
-fn next_token(alloc: Global, text: &str) -> Result<Step<'_>, Refusal>
+pub fn next_token(alloc: Global, text: &str) -> Result<Step<'_>, Refusal>
     ensures exact { Gives step_of result (next_of (chars text.now)) }
     ensures utf8 { IfOk result (λ step. IsUtf8 step.rest.now) }
 {
@@ -305,7 +307,7 @@ fn is_empty(text: &str) -> bool
 }
 
 /// The tokens of a text.
-pub(crate) fn tokenize(alloc: Global, text: &str) -> Result<List<Token>, Refusal>
+pub fn tokenize(alloc: Global, text: &str) -> Result<List<Token>, Refusal>
     ensures { Gives (λ all. all) result (tokens_of (chars text.now)) }
 {
     let mut all = List::new(alloc);

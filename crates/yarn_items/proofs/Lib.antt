@@ -9,6 +9,7 @@ pub mod NameBytes
 pub mod NameLemmas
 pub mod PieceLemmas
 pub mod SimpleLemmas
+pub mod TableLemmas
 pub mod TableTextLemmas
 pub mod TagsLemmas
 pub mod Utf8Lemmas

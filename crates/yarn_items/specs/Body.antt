@@ -1,4 +1,4 @@
--- What a line is in a body, as a function of its text (docs/language.md, Body lines, Texts, Jumps and Not built).
+-- What a line is in a body, as a function of its text (docs/language.md, Body lines, Texts, Jumps and What is NotBuilt in this version).
 use Rattle.std.specs.Prelude.{ℕ, ◌+◌, List, [], ◌∷◌, length, take, drop, ◌||◌, if◌then◌else◌, nat_eq, Bool, not, Option, Some, None, codes}
 use Rattle.std.specs.Str.{bytes_eq}
 use Rattle.yarn_lines.specs.Lines.{is_blank, past_leading, begins_with}

@@ -10,7 +10,7 @@ use crate::command::read_command;
 use crate::cut::{table_text_in, text_length_in};
 use crate::hashtags::{has_fine_ids_in, tags_in};
 use crate::item::{Found, Item, Said};
-use crate::special::has_special;
+use crate::table::has_special;
 use std::alloc::Global;
 use yarn_base::{Memory, Text};
 use yarn_lines::without_blanks;

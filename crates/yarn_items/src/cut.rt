@@ -4,7 +4,7 @@ ghost use Rattle.yarn_items.specs.Text.{is_escaped, is_kept, begins_pair, begins
 ghost use Rattle.yarn_items.specs.Cut.{piece_length, text_length, unescaped};
 
 use crate::bytes::copied;
-use crate::special::is_special_byte;
+use crate::table::is_special_byte;
 use std::alloc::Global;
 use yarn_base::{Memory, Text};
 use yarn_lines::without_blanks;

@@ -10,7 +10,7 @@ mod heading;
 mod item;
 mod laws;
 mod read;
-mod special;
+mod table;
 
 pub use item::{Found, Header, Item, Mode, Said};
 pub use laws::{items_are_found, not_built_is_found, nothing_is_left, one_item};

@@ -21,6 +21,7 @@ use Rattle.yarn_tree.specs.Splits.{bad_in, long_in, split_of, splits_from}
 use Rattle.yarn_tree.proofs.CountLemmas.{extra-few, few-extra}
 use Rattle.yarn_tree.proofs.KnownLemmas.{titles-all, ids-all, reads-known, known-reads}
 use Rattle.yarn_tree.proofs.LinesLemmas.{IsClear, tree_in, clear-stands, stands-clear, stands-tree}
+use Rattle.yarn_tree.proofs.RefusalLemmas.{Places}
 use Rattle.yarn_tree.proofs.SightLemmas.{no_sight-distinct, distinct-no_sight, no_sight-knows}
 use Rattle.yarn_tree.proofs.SizeLemmas.{not_too_much, none_too_much, alone_small, small-alone}
 use Rattle.yarn_tree.proofs.SourceLemmas.{or-none, none-or, at-none, none-at, AllClear, reads_from, NoneRefused, clear-all, all-clear, all-stand, stand-clear, stand-trees}
@@ -37,19 +38,6 @@ unless-reads kind None next x is = (refl, is)
 unless-reads kind (Some place) next x is = absurd cc
 
 -- the refusals of a project, one after the other
-record Places : Type 0 where
-  pub much : Option Place
-  pub bad : Option Place
-  pub long : Option Place
-  pub unbuilt : Option Place
-  pub nothing : Option Place
-  pub misplaced : Option Place
-  pub extra : Option Place
-  pub mistitled : Option Place
-  pub again : Option Place
-  pub unknown : Option Place
-  pub twice : Option Place
-
 abbrev names_on : {A : Type 0} → Places → Reading A → Reading A
 names_on p next = unless BadTitle p.mistitled (unless DuplicateTitle p.again (unless UnknownNode p.unknown (unless DuplicateLineId p.twice next)))
 
@@ -130,7 +118,7 @@ lines-none p next a b c d =
 abbrev pub reads_in : List SourceFile → List FileRead
 reads_in sources = reads_from 0 sources
 
-abbrev places_in : List SourceFile → Places
+abbrev pub places_in : List SourceFile → Places
 places_in sources = record {
   much = too_much 0 0 sources;
   bad = first_line bad_in 0 sources;
@@ -149,16 +137,16 @@ the-reading : (sources : List SourceFile) → reading_of sources ≡ all_on (pla
 unfolding reading_of
 the-reading sources = refl
 
-abbrev trees_in : List SourceFile → List File
+abbrev pub trees_in : List SourceFile → List File
 trees_in sources = map tree_of (reads_in sources)
 
-names-known : (sources : List SourceFile) → first_place (unknown_in (titles_seen (reads_in sources)).names) (reads_in sources) ≡ None →
+pub names-known : (sources : List SourceFile) → first_place (unknown_in (titles_seen (reads_in sources)).names) (reads_in sources) ≡ None →
     All (IsAmong (titles (nodes_of (trees_in sources)))) (jumps_of (nodes_of (trees_in sources)))
 names-known sources none =
     subst (λ (l : List (List ℕ)). All (IsAmong l) (jumps_of (nodes_of (trees_in sources)))) (titles-all 0 sources)
     (reads-known (titles_seen (reads_in sources)).names _ (no_sight-knows (titles_of (reads_in sources))) (reads_in sources) none)
 
-known-names : (sources : List SourceFile) → All (IsAmong (titles (nodes_of (trees_in sources)))) (jumps_of (nodes_of (trees_in sources))) →
+pub known-names : (sources : List SourceFile) → All (IsAmong (titles (nodes_of (trees_in sources)))) (jumps_of (nodes_of (trees_in sources))) →
     first_place (unknown_in (titles_seen (reads_in sources)).names) (reads_in sources) ≡ None
 known-names sources all =
     known-reads (titles_seen (reads_in sources)).names _ (no_sight-knows (titles_of (reads_in sources))) (reads_in sources)

@@ -13,6 +13,7 @@ use std::alloc::Global;
 use yarn_base::{Memory, Place};
 
 const MOST_NODES: usize = 65536;
+
 const MOST_COUNTED: usize = 4294967295;
 
 /// The first place that was noted of the files.

@@ -1,0 +1,5 @@
+pub mod Braces
+pub mod Sound
+pub mod Only
+pub mod ReadLaws
+pub mod Printed

@@ -1,0 +1,12 @@
+pub mod KindLemmas
+pub mod LabelLemmas
+pub mod Narrowing
+pub mod ClassesLemmas
+pub mod PickLemmas
+pub mod NodeLemmas
+pub mod NameLemmas
+pub mod FunctionLemmas
+pub mod FindLemmas
+pub mod ExprLemmas
+pub mod AskingLemmas
+pub mod InferLemmas
