@@ -1,10 +1,10 @@
 -- One refusal after the other.
-use Rattle.std.proofs.Common.{◌≡◌, ℕ, List, Option, Some, None, Result, Ok, Err, refl, sym, ap, ◌∙◌, subst}
+use Rattle.std.proofs.Common.{◌≡◌, Option, None, sym, ap, ◌∙◌, subst}
 use Rattle.yarn_base.specs.declared.Place.{Place}
 use Rattle.yarn_tree.specs.declared.refusal.ProjectFault.{ProjectFault}
 use Rattle.yarn_tree.specs.declared.refusal.ProjectFault.TheVariants.{Refused, Memory}
 use Rattle.yarn_tree.specs.declared.refusal.RefusalKind.{RefusalKind}
-use Rattle.yarn_tree.specs.Reading.{Reading, Reads, Refuses, unless, IsFault, IsTold}
+use Rattle.yarn_tree.specs.Reading.{Reading, Refuses, unless, IsFault, IsTold}
 
 -- a fault that is told is the fault of what is read
 pub told-here : {A : Type 0} (kind : RefusalKind) (place : Option Place) (next : Reading A) (fault : ProjectFault) → IsTold kind place fault →

@@ -1,5 +1,5 @@
 -- The places of TooMany and TooMuch.
-use Rattle.std.proofs.Common.{◌≡◌, ◌↔◌, ◌≤◌, ℕ, zero, suc, ◌+◌, ◌-◌, List, [], ◌∷◌, ◌++◌, map, length, true, false, Bool, cond, Option, Some, None, refl, sym, ap, ◌∙◌, subst, arith}
+use Rattle.std.proofs.Common.{◌≡◌, ◌↔◌, ℕ, zero, suc, ◌+◌, ◌-◌, List, [], ◌∷◌, ◌++◌, map, length, true, false, Bool, cond, Option, Some, None, refl, sym, ap, ◌∙◌, subst, arith}
 use Rattle.std.specs.List.{slice_get}
 use Rattle.yarn_base.specs.declared.Place.{Place}
 use Rattle.yarn_base.specs.declared.SourceFile.{SourceFile}
@@ -8,7 +8,8 @@ use Rattle.yarn_tree.specs.declared.tree.File.{File}
 use Rattle.yarn_tree.specs.declared.tree.Node.{Node}
 use Rattle.yarn_tree.specs.declared.tree.Project.{Project}
 use Rattle.yarn_tree.specs.Checks.{begun_at, extra_node}
-use Rattle.yarn_tree.specs.Laws.{ItemsAreFound, AreNotTooMuch, total, begins_in, begins_of, IsBehind, IsTooMuchAt}
+use Rattle.yarn_items.specs.Laws.{ItemsAreFound}
+use Rattle.yarn_tree.specs.Laws.{AreNotTooMuch, total, begins_in, begins_of, IsBehind, IsTooMuchAt}
 use Rattle.yarn_tree.specs.Places.{or_later}
 use Rattle.yarn_tree.specs.Project.{ProjectOf}
 use Rattle.yarn_tree.specs.Reader.{file_of}
@@ -19,7 +20,7 @@ use Rattle.yarn_tree.proofs.LawLemmas.{reads_in, places_in, trees_in}
 use Rattle.yarn_tree.proofs.LineLaws.{the-reading}
 use Rattle.yarn_tree.proofs.RefusalLemmas.{told-extra, tell-extra, told-much, tell-much}
 use Rattle.yarn_tree.proofs.SizeLemmas.{not_too_much, none_too_much}
-use Rattle.yarn_tree.proofs.SourceLemmas.{AllClear, reads_from, clear-all, all-clear, all-stand, stand-clear, stand-trees}
+use Rattle.yarn_tree.proofs.SourceLemmas.{reads_from, clear-all, all-clear, all-stand, stand-clear, stand-trees}
 
 -- Nodes that are too many.
 

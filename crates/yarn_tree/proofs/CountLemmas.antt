@@ -1,7 +1,6 @@
 -- How many nodes the files have.
-use Rattle.std.proofs.Common.{◌≡◌, ◌≤◌, ℕ, zero, suc, ◌+◌, ◌-◌, List, [], ◌∷◌, ◌++◌, map, length, Option, Some, None, refl, sym, ap, ◌∙◌, arith, length-append}
-use Rattle.std.specs.List.{slice_get, flat_map}
-use Rattle.yarn_base.specs.declared.Place.{Place}
+use Rattle.std.proofs.Common.{◌≡◌, ◌≤◌, ℕ, zero, suc, ◌+◌, ◌-◌, List, [], ◌∷◌, ◌++◌, map, length, Option, Some, None, refl, ap, arith, length-append}
+use Rattle.std.specs.List.{slice_get}
 use Rattle.yarn_tree.specs.declared.stages.FileRead.{FileRead}
 use Rattle.yarn_tree.specs.declared.tree.Node.{Node}
 use Rattle.yarn_tree.specs.Checks.{begun_at, extra_node}

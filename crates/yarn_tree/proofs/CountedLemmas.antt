@@ -1,5 +1,5 @@
 -- The ids that are read: each line has one of its own, or that of its place.
-use Rattle.std.proofs.Common.{◌≡◌, ℕ, ◌+◌, List, [], ◌∷◌, ◌++◌, map, Bool, true, false, not, cond, ◌||◌, Option, Some, None, is_some, is_none, ◌&&◌, refl, sym, ap, ◌∙◌, subst, arith}
+use Rattle.std.proofs.Common.{◌≡◌, ℕ, ◌+◌, List, [], ◌∷◌, ◌++◌, map, Bool, true, false, not, cond, ◌||◌, Option, Some, None, is_some, refl, sym, ap, ◌∙◌, subst, arith}
 use Rattle.std.specs.Prelude.{⊤}
 use Rattle.yarn_base.specs.declared.Place.{Place}
 use Rattle.yarn_items.specs.declared.item.Header.{Header}
@@ -17,8 +17,6 @@ use Rattle.yarn_tree.specs.declared.structure.Stand.{Stand}
 use Rattle.yarn_tree.specs.declared.structure.Stand.TheVariants.{Front, Between, Headed, Inside}
 use Rattle.yarn_tree.specs.declared.tree.LineText.{LineText}
 use Rattle.yarn_tree.specs.declared.tree.Node.{Node}
-use Rattle.yarn_tree.specs.declared.tree.Stmt.{Stmt}
-use Rattle.yarn_tree.specs.declared.tree.Stmt.TheVariants.{Line, Jump}
 use Rattle.yarn_tree.specs.Body.{ItemAt, line_id, id_among, said_in}
 use Rattle.yarn_tree.specs.Checks.{noted_in, extra_node, unknown_in, own_within, own_of, titles_of, titles_seen, ids_of, ids_seen}
 use Rattle.yarn_tree.specs.Finds.{items_from}

@@ -1,24 +1,22 @@
 -- The first line of a kind, and the first file with one.
-use Rattle.std.proofs.Common.{◌≡◌, ◌↔◌, ℕ, ◌+◌, List, [], ◌∷◌, ◌++◌, length, map, true, Bool, false, cond, bytes_eq, codes, Option, Some, None, All, refl, sym, ap, ◌∙◌, subst, arith}
+use Rattle.std.proofs.Common.{◌≡◌, ◌↔◌, ℕ, ◌+◌, List, [], ◌∷◌, ◌++◌, length, true, Bool, false, cond, bytes_eq, codes, Option, Some, None, All, refl, sym, ap, ◌∙◌, subst, arith}
 use Rattle.std.specs.List.{list_any}
 use Rattle.std.proofs.lemmas.List.Elements.{All-nil, All-cons, All-head, All-tail}
 use Rattle.std.proofs.lemmas.Slice.Eq.{bytes_eq-Decides}
 use Rattle.yarn_base.specs.declared.Place.{Place}
 use Rattle.yarn_base.specs.declared.SourceFile.{SourceFile}
 use Rattle.yarn_lines.specs.declared.line.RawLine.{RawLine}
-use Rattle.yarn_lines.specs.Lines.{lines_of}
 use Rattle.yarn_items.specs.declared.item.Mode.{Mode}
 use Rattle.yarn_items.specs.declared.item.Mode.TheVariants.{InHeaders, InBody}
-use Rattle.yarn_items.specs.declared.item.Item.{Item}
 use Rattle.yarn_items.specs.declared.item.Item.TheVariants as item
 use Rattle.yarn_items.specs.declared.item.Found.{Found}
 use Rattle.yarn_items.specs.declared.item.Found.TheVariants.{Is, NotBuilt, Nothing}
 use Rattle.yarn_items.specs.Form.{found_of}
-use Rattle.yarn_items.specs.Item.{IsItem, IsNotBuilt}
+use Rattle.yarn_items.specs.Item.{IsItem}
 use Rattle.yarn_tree.specs.Finds.{mode_behind, unbuilt_or, first_unbuilt, nothing_or, first_nothing}
-use Rattle.yarn_tree.specs.Laws.{ItemsAreFound, NotBuiltIsFound, mode_past, mode_at, NoLine, HasNoLine, IsFirstIn, IsFirstOf, IsFirstLine, IsNothing}
-use Rattle.yarn_tree.specs.Places.{or_later, at_file, first_place, first_line}
-use Rattle.yarn_tree.specs.Project.{next_mode}
+use Rattle.yarn_items.specs.Laws.{ItemsAreFound}
+use Rattle.yarn_tree.specs.Laws.{mode_past, mode_at, NoLine, IsFirstIn, IsFirstOf}
+use Rattle.yarn_tree.specs.Places.{or_later, at_file, first_line}
 
 -- The mode of a line.
 

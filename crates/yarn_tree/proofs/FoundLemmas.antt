@@ -1,5 +1,5 @@
 -- What is read of items that stand where they may: the file whose items they are.
-use Rattle.std.proofs.Common.{◌≡◌, ℕ, List, [], ◌∷◌, ◌++◌, Bool, true, false, cond, Option, Some, None, refl, sym, ap, ◌∙◌, subst, append_assoc, append-nil}
+use Rattle.std.proofs.Common.{◌≡◌, ℕ, List, [], ◌∷◌, ◌++◌, Bool, true, false, cond, Option, Some, None, refl, sym, ap, ◌∙◌, subst, append_assoc}
 use Rattle.yarn_items.specs.declared.item.Header.{Header}
 use Rattle.yarn_items.specs.declared.item.Item.{Item}
 use Rattle.yarn_items.specs.declared.item.Item.TheVariants as item
@@ -8,7 +8,6 @@ use Rattle.yarn_items.specs.declared.item.Mode.TheVariants.{InHeaders, InBody}
 use Rattle.yarn_tree.specs.declared.draft.Titled.{Titled}
 use Rattle.yarn_tree.specs.declared.structure.Stand.{Stand}
 use Rattle.yarn_tree.specs.declared.structure.Stand.TheVariants.{Front, Between, Headed, Inside}
-use Rattle.yarn_tree.specs.declared.tree.File.{File}
 use Rattle.yarn_tree.specs.declared.tree.LineText.{LineText}
 use Rattle.yarn_tree.specs.declared.tree.Node.{Node}
 use Rattle.yarn_tree.specs.declared.tree.Stmt.{Stmt}

@@ -1,7 +1,6 @@
 -- The names of titles, jumps and ids, without their places.
-use Rattle.std.proofs.Common.{◌≡◌, ℕ, ◌+◌, List, [], ◌∷◌, ◌++◌, map, Bool, true, false, cond, Option, Some, None, All, refl, sym, ap, ◌∙◌, subst, append_assoc}
+use Rattle.std.proofs.Common.{◌≡◌, ℕ, List, [], ◌∷◌, ◌++◌, map, Bool, true, false, None, All, refl, sym, ap, ◌∙◌, subst, append_assoc}
 use Rattle.std.proofs.lemmas.List.Elements.{All-nil, All-cons, All-head, All-tail, All-append}
-use Rattle.yarn_base.specs.declared.Place.{Place}
 use Rattle.yarn_base.specs.declared.SourceFile.{SourceFile}
 use Rattle.yarn_items.specs.declared.item.Mode.TheVariants.{InHeaders}
 use Rattle.yarn_items.specs.declared.item.Item.{Item}
@@ -19,7 +18,7 @@ use Rattle.yarn_tree.specs.Finds.{items_from}
 use Rattle.yarn_tree.specs.Laws.{nodes_of, titles, IsAmong, names_in, jumps_in, jumps_of, line_ids, node_ids}
 use Rattle.yarn_tree.specs.Names.{NameAt}
 use Rattle.yarn_tree.specs.Nodes.{no_draft, titled_of, draft_behind, and_node, and_titled, nodes_from, titles_from}
-use Rattle.yarn_tree.specs.Places.{or_later, at_file, first_place}
+use Rattle.yarn_tree.specs.Places.{first_place}
 use Rattle.yarn_tree.specs.Reader.{file_of}
 use Rattle.yarn_tree.specs.Reading.{tree_of}
 use Rattle.yarn_tree.specs.Splits.{splits_from}

@@ -1,5 +1,5 @@
 -- The laws that tie the reading to what files stand for.
-use Rattle.std.proofs.Common.{◌≡◌, ◌↔◌, ◌≤◌, ℕ, List, [], ◌∷◌, ◌++◌, length, map, true, false, Option, Some, None, All, refl, sym, ap, ◌∙◌, subst, arith, append-nil}
+use Rattle.std.proofs.Common.{◌≡◌, ◌↔◌, ◌≤◌, ℕ, List, [], ◌∷◌, ◌++◌, length, map, true, false, Option, Some, None, All, refl, sym, ap, ◌∙◌, subst, append-nil}
 use Rattle.yarn_base.specs.declared.Place.{Place}
 use Rattle.yarn_base.specs.declared.SourceFile.{SourceFile}
 use Rattle.yarn_tree.specs.declared.refusal.RefusalKind.{RefusalKind}
@@ -11,7 +11,8 @@ use Rattle.yarn_tree.specs.declared.tree.Node.{Node}
 use Rattle.yarn_tree.specs.declared.tree.Project.{Project}
 use Rattle.yarn_tree.specs.Body.{HasIds, HasNoIds}
 use Rattle.yarn_tree.specs.Checks.{noted_in, extra_node, titles_of, titles_seen, unknown_in, ids_of, ids_seen}
-use Rattle.yarn_tree.specs.Laws.{ItemsAreFound, AreNotTooMuch, AreAccepted, nodes_of, titles, jumps_of, node_ids, IsAmong, AreDistinct, IsWellTitled}
+use Rattle.yarn_items.specs.Laws.{ItemsAreFound}
+use Rattle.yarn_tree.specs.Laws.{AreNotTooMuch, AreAccepted, nodes_of, titles, jumps_of, IsAmong, AreDistinct}
 use Rattle.yarn_tree.specs.Places.{at_file, first_place, first_line}
 use Rattle.yarn_tree.specs.Project.{StandsFor, AllStandFor, ProjectOf}
 use Rattle.yarn_tree.specs.Reader.{unbuilt_in, file_of}
@@ -24,7 +25,7 @@ use Rattle.yarn_tree.proofs.LinesLemmas.{IsClear, tree_in, clear-stands, stands-
 use Rattle.yarn_tree.proofs.RefusalLemmas.{Places}
 use Rattle.yarn_tree.proofs.SightLemmas.{no_sight-distinct, distinct-no_sight, no_sight-knows}
 use Rattle.yarn_tree.proofs.SizeLemmas.{not_too_much, none_too_much, alone_small, small-alone}
-use Rattle.yarn_tree.proofs.SourceLemmas.{or-none, none-or, at-none, none-at, AllClear, reads_from, NoneRefused, clear-all, all-clear, all-stand, stand-clear, stand-trees}
+use Rattle.yarn_tree.proofs.SourceLemmas.{or-none, none-or, at-none, none-at, reads_from, clear-all, all-clear, all-stand, stand-clear, stand-trees}
 use Rattle.yarn_tree.proofs.WellLemmas.{all-well, well-all}
 
 pub unless-none : {A : Type 0} (kind : RefusalKind) (o : Option Place) (next : Reading A) → o ≡ None → unless kind o next ≡ next

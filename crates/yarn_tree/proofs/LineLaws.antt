@@ -1,5 +1,5 @@
 -- The places of NotBuilt, BadLine and BadStructure.
-use Rattle.std.proofs.Common.{◌≡◌, ◌↔◌, ℕ, ◌+◌, List, [], ◌∷◌, true, false, Bool, cond, Option, Some, None, All, refl, sym, ap, ◌∙◌, subst}
+use Rattle.std.proofs.Common.{◌≡◌, ◌↔◌, ℕ, ◌+◌, List, [], ◌∷◌, true, false, Bool, cond, Option, Some, None, All, refl, sym, ap, ◌∙◌}
 use Rattle.std.proofs.lemmas.List.Elements.{All-nil, All-cons, All-head, All-tail, All-weaker}
 use Rattle.yarn_base.specs.declared.Place.{Place}
 use Rattle.yarn_base.specs.declared.SourceFile.{SourceFile}
@@ -7,29 +7,27 @@ use Rattle.yarn_lines.specs.declared.line.RawLine.{RawLine}
 use Rattle.yarn_lines.specs.Lines.{lines_of}
 use Rattle.yarn_lines.specs.Fault.{first_bad, first_long}
 use Rattle.yarn_items.specs.declared.item.Mode.{Mode}
-use Rattle.yarn_items.specs.declared.item.Mode.TheVariants.{InHeaders, InBody}
-use Rattle.yarn_items.specs.declared.item.Item.{Item}
+use Rattle.yarn_items.specs.declared.item.Mode.TheVariants.{InHeaders}
 use Rattle.yarn_items.specs.declared.item.Found.{Found}
 use Rattle.yarn_items.specs.declared.item.Found.TheVariants.{Is, NotBuilt, Nothing}
 use Rattle.yarn_items.specs.Form.{found_of}
-use Rattle.yarn_items.specs.Item.{IsItem, IsNotBuilt}
+use Rattle.yarn_items.specs.Item.{IsNotBuilt}
 use Rattle.yarn_tree.specs.declared.refusal.RefusalKind.TheVariants as kind
 use Rattle.yarn_tree.specs.declared.stages.Note.TheVariants.{Bad, Misplaced}
 use Rattle.yarn_tree.specs.declared.structure.Stand.TheVariants.{Front}
-use Rattle.yarn_tree.specs.declared.tree.File.{File}
-use Rattle.yarn_tree.specs.Body.{ItemAt}
 use Rattle.yarn_tree.specs.Checks.{noted_in}
-use Rattle.yarn_tree.specs.Finds.{mode_behind, items_from, first_unbuilt, first_nothing, nothing_or}
-use Rattle.yarn_tree.specs.Laws.{ItemsAreFound, NotBuiltIsFound, AreNotTooMuch, AreReadable, HasNoLine, IsFirstIn, IsFirstOf, IsFirstLine, IsNothing, IsMisplacedIn, HasItems, IsStanding}
+use Rattle.yarn_tree.specs.Finds.{mode_behind, first_unbuilt, first_nothing}
+use Rattle.yarn_items.specs.Laws.{ItemsAreFound, NotBuiltIsFound}
+use Rattle.yarn_tree.specs.Laws.{AreNotTooMuch, AreReadable, HasNoLine, IsFirstIn, IsFirstOf, IsFirstLine, IsNothing, IsMisplacedIn, HasItems, IsStanding}
 use Rattle.yarn_tree.specs.Places.{or_later, at_file, first_place, first_line}
-use Rattle.yarn_tree.specs.Project.{IsItems, IsReadable, StandsFor}
-use Rattle.yarn_tree.specs.Reader.{unbuilt_in, file_of}
+use Rattle.yarn_tree.specs.Project.{IsReadable}
+use Rattle.yarn_tree.specs.Reader.{unbuilt_in}
 use Rattle.yarn_tree.specs.Reading.{Refuses, reading_of, project_of}
-use Rattle.yarn_tree.specs.Splits.{bad_in, long_in, split_of, splits_from}
+use Rattle.yarn_tree.specs.Splits.{bad_in, long_in, splits_from}
 use Rattle.yarn_tree.specs.Structure.{first_misplaced}
 use Rattle.yarn_tree.proofs.FirstLemmas.{first_found, is_unbuilt, unbuilt-found, lines-none, none-lines, lines-first, first-lines, Decides, none-all, all-none, first-found, found-first}
 use Rattle.yarn_tree.proofs.LawLemmas.{reads_in, places_in}
-use Rattle.yarn_tree.proofs.LinesLemmas.{IsClear, items_in, tree_in, readable-found, readable-told, items-fit, items-have, fine-items, unbuilt-step, nothing-step, clear-stands, stands-clear}
+use Rattle.yarn_tree.proofs.LinesLemmas.{items_in, tree_in, readable-found, readable-told, items-fit, items-have, fine-items, unbuilt-step, nothing-step, clear-stands, stands-clear}
 use Rattle.yarn_tree.proofs.PlaceLemmas.{misplaced-found, misplaced-told}
 use Rattle.yarn_tree.proofs.RefusalLemmas.{from_much, told-unbuilt, tell-unbuilt, told-nothing, tell-nothing, told-misplaced, tell-misplaced}
 use Rattle.yarn_tree.proofs.SizeLemmas.{not_too_much, none_too_much}

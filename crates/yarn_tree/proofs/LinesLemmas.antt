@@ -1,5 +1,5 @@
 -- What is found of lines, said over their items; and the file that lines stand for.
-use Rattle.std.proofs.Common.{◌≡◌, ℕ, ◌+◌, ◌≤◌, List, [], ◌∷◌, ◌++◌, length, Bool, true, false, nat_lt, Option, Some, None, All, IsUtf8, refl, sym, ap, ◌∙◌, subst}
+use Rattle.std.proofs.Common.{◌≡◌, ℕ, ◌+◌, ◌≤◌, List, [], ◌∷◌, length, Bool, true, false, nat_lt, Some, None, All, IsUtf8, refl, sym, ap, ◌∙◌, subst}
 use Rattle.std.specs.Str.{is_utf8}
 use Rattle.std.proofs.lemmas.Bool.{ltb-false, le-ltb}
 use Rattle.std.proofs.lemmas.List.Elements.{All-nil, All-cons, All-head, All-tail}
@@ -21,9 +21,9 @@ use Rattle.yarn_tree.specs.declared.tree.File.{File}
 use Rattle.yarn_tree.specs.declared.tree.Node.{Node}
 use Rattle.yarn_tree.specs.Body.{ItemAt}
 use Rattle.yarn_tree.specs.Finds.{mode_behind, and_item, items_from, unbuilt_or, first_unbuilt, nothing_or, first_nothing}
-use Rattle.yarn_tree.specs.Laws.{ItemsAreFound}
+use Rattle.yarn_items.specs.Laws.{ItemsAreFound}
 use Rattle.yarn_tree.specs.Nodes.{tags_of, no_draft, nodes_from}
-use Rattle.yarn_tree.specs.Project.{next_mode, IsItems, IsReadable, IsFile, StandsFor}
+use Rattle.yarn_tree.specs.Project.{next_mode, IsItems, IsReadable, StandsFor}
 use Rattle.yarn_tree.specs.Structure.{first_misplaced}
 use Rattle.yarn_tree.proofs.BodyLemmas.{HasGiven}
 use Rattle.yarn_tree.proofs.ProjectLemmas.{file-tags, file-nodes, file-fine}

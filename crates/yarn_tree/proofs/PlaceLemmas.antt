@@ -1,5 +1,5 @@
 -- The place where items stop to be the items of a file.
-use Rattle.std.proofs.Common.{◌≡◌, ℕ, List, [], ◌∷◌, ◌++◌, Bool, true, false, cond, not, Some, None, refl, sym, ap, ◌∙◌, subst}
+use Rattle.std.proofs.Common.{◌≡◌, ℕ, List, [], ◌∷◌, ◌++◌, Bool, true, false, cond, Some, None, refl, sym, ap, ◌∙◌, subst}
 use Rattle.yarn_items.specs.declared.item.Header.{Header}
 use Rattle.yarn_items.specs.declared.item.Mode.{Mode}
 use Rattle.yarn_items.specs.declared.item.Mode.TheVariants.{InHeaders, InBody}

@@ -7,7 +7,7 @@ use Rattle.yarn_items.specs.declared.item.Item.TheVariants as item
 use Rattle.yarn_tree.specs.declared.draft.Draft.{Draft}
 use Rattle.yarn_tree.specs.declared.draft.Titled.{Titled}
 use Rattle.yarn_tree.specs.declared.structure.Stand.{Stand}
-use Rattle.yarn_tree.specs.declared.structure.Stand.TheVariants.{Front, Between, Headed, Inside}
+use Rattle.yarn_tree.specs.declared.structure.Stand.TheVariants.{Front, Between, Inside}
 use Rattle.yarn_tree.specs.declared.tree.File.{File}
 use Rattle.yarn_tree.specs.declared.tree.Head.{Head}
 use Rattle.yarn_tree.specs.declared.tree.LineText.{LineText}

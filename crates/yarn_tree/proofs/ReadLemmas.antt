@@ -1,18 +1,15 @@
 -- The reading of files, one stage after the other.
-use Rattle.std.proofs.Common.{◌≡◌, ℕ, List, Option, Some, None, true, false, refl, sym, ap, ◌∙◌, subst}
+use Rattle.std.proofs.Common.{◌≡◌, List, Option, Some, None, sym, ap, ◌∙◌, subst}
 use Rattle.yarn_base.specs.declared.Place.{Place}
 use Rattle.yarn_base.specs.declared.SourceFile.{SourceFile}
 use Rattle.yarn_tree.specs.declared.refusal.ProjectFault.{ProjectFault}
 use Rattle.yarn_tree.specs.declared.refusal.ProjectFault.TheVariants.{Refused, Memory}
-use Rattle.yarn_tree.specs.declared.refusal.RefusalKind.{RefusalKind}
 use Rattle.yarn_tree.specs.declared.refusal.RefusalKind.TheVariants.{TooMuch, BadUtf8, LineTooLong}
 use Rattle.yarn_tree.specs.declared.stages.SplitFile.{SplitFile}
-use Rattle.yarn_tree.specs.declared.tree.File.{File}
-use Rattle.yarn_tree.specs.declared.tree.Project.{Project}
 use Rattle.yarn_tree.specs.Places.{at_file, first_line}
 use Rattle.yarn_tree.specs.Size.{too_much, big_alone}
 use Rattle.yarn_tree.specs.Splits.{bad_in, long_in, split_of, splits_from}
-use Rattle.yarn_tree.specs.Reading.{Reading, Reads, Refuses, unless, splits_read, reading_of, split_read, file_reading_of, sources_split, source_split, IsFault, IsTold}
+use Rattle.yarn_tree.specs.Reading.{Reading, Reads, unless, splits_read, reading_of, split_read, file_reading_of, sources_split, source_split, IsFault, IsTold}
 use Rattle.yarn_tree.proofs.ChainLemmas.{told-here, fault-past}
 
 -- one stage and what is read on

@@ -1,5 +1,5 @@
 -- What a refusal of a kind tells of the places of all kinds.
-use Rattle.std.proofs.Common.{◌≡◌, Option, Some, None, refl, sym, ap, ◌∙◌}
+use Rattle.std.proofs.Common.{◌≡◌, Option, Some, None, refl, ap, ◌∙◌}
 use Rattle.yarn_base.specs.declared.Place.{Place}
 use Rattle.yarn_tree.specs.declared.refusal.RefusalKind.{RefusalKind}
 use Rattle.yarn_tree.specs.declared.refusal.RefusalKind.TheVariants.{TooMuch, BadUtf8, LineTooLong, NotBuilt, BadLine, BadStructure, TooMany, BadTitle, DuplicateTitle, UnknownNode, DuplicateLineId}

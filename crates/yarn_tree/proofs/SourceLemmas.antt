@@ -1,18 +1,17 @@
 -- Files one after the other: those at which nothing is refused stand for their trees.
-use Rattle.std.proofs.Common.{◌≡◌, ℕ, ◌+◌, List, [], ◌∷◌, map, true, Option, Some, None, refl, sym, ap, ◌∙◌}
-use Rattle.yarn_base.specs.declared.Place.{Place}
+use Rattle.std.proofs.Common.{◌≡◌, ℕ, ◌+◌, List, [], ◌∷◌, map, true, Option, Some, None, refl, ap, ◌∙◌}
 use Rattle.yarn_base.specs.declared.SourceFile.{SourceFile}
 use Rattle.yarn_tree.specs.declared.stages.FileRead.{FileRead}
 use Rattle.yarn_tree.specs.declared.stages.Note.TheVariants.{Bad, Misplaced}
 use Rattle.yarn_tree.specs.declared.tree.File.{File}
 use Rattle.yarn_tree.specs.Checks.{noted_in}
-use Rattle.yarn_tree.specs.Laws.{ItemsAreFound}
+use Rattle.yarn_items.specs.Laws.{ItemsAreFound}
 use Rattle.yarn_tree.specs.Places.{or_later, at_file, first_place, first_line}
 use Rattle.yarn_tree.specs.Project.{AllStandFor}
 use Rattle.yarn_tree.specs.Reader.{unbuilt_in, file_of}
 use Rattle.yarn_tree.specs.Reading.{tree_of}
 use Rattle.yarn_tree.specs.Splits.{bad_in, long_in, split_of, splits_from}
-use Rattle.yarn_tree.proofs.LinesLemmas.{IsClear, tree_in, clear-stands, stands-clear, stands-tree}
+use Rattle.yarn_tree.proofs.LinesLemmas.{IsClear, clear-stands, stands-clear, stands-tree}
 
 pub or-none : {A : Type 0} (a b : Option A) → or_later a b ≡ None → (a ≡ None) × (b ≡ None)
 or-none None b is = (refl, is)

@@ -1,23 +1,22 @@
 -- The places of BadTitle and DuplicateTitle.
-use Rattle.std.proofs.Common.{◌≡◌, ◌↔◌, ◌≤◌, ℕ, ◌+◌, List, [], ◌∷◌, ◌++◌, map, length, true, false, Option, Some, None, All, refl, sym, ap, ◌∙◌, subst}
+use Rattle.std.proofs.Common.{◌≡◌, ◌↔◌, ◌≤◌, ℕ, ◌+◌, List, [], ◌∷◌, ◌++◌, length, true, false, Option, None, All, refl, sym, ap, ◌∙◌, subst}
 use Rattle.std.proofs.lemmas.List.Elements.{All-nil, All-cons, All-weaker}
 use Rattle.yarn_base.specs.declared.Place.{Place}
 use Rattle.yarn_base.specs.declared.SourceFile.{SourceFile}
 use Rattle.yarn_lines.specs.Lines.{lines_of}
 use Rattle.yarn_items.specs.declared.item.Mode.TheVariants.{InHeaders}
 use Rattle.yarn_tree.specs.declared.refusal.RefusalKind.TheVariants as kind
-use Rattle.yarn_tree.specs.declared.stages.FileRead.{FileRead}
 use Rattle.yarn_tree.specs.declared.stages.Note.TheVariants.{Mistitled}
 use Rattle.yarn_tree.specs.declared.tree.File.{File}
 use Rattle.yarn_tree.specs.declared.tree.Project.{Project}
-use Rattle.yarn_tree.specs.Body.{ItemAt}
-use Rattle.yarn_tree.specs.Checks.{noted_in, titles_in, titles_of}
-use Rattle.yarn_tree.specs.Laws.{ItemsAreFound, AreNotTooMuch, nodes_of, IsWellTitled, IsAgainAt, IsFirstOf, HasFineTitles, IsBadTitleIn, title_places_in, AreTitlePlaces}
+use Rattle.yarn_tree.specs.Checks.{noted_in, titles_of}
+use Rattle.yarn_items.specs.Laws.{ItemsAreFound}
+use Rattle.yarn_tree.specs.Laws.{AreNotTooMuch, nodes_of, IsWellTitled, IsAgainAt, IsFirstOf, HasFineTitles, IsBadTitleIn, title_places_in, AreTitlePlaces}
 use Rattle.yarn_tree.specs.Names.{NameAt}
 use Rattle.yarn_tree.specs.Places.{or_later, at_file, first_place, first_line}
 use Rattle.yarn_tree.specs.Project.{ProjectOf}
 use Rattle.yarn_tree.specs.Reader.{file_of}
-use Rattle.yarn_tree.specs.Reading.{Refuses, reading_of, project_of, tree_of}
+use Rattle.yarn_tree.specs.Reading.{Refuses, reading_of, project_of}
 use Rattle.yarn_tree.specs.Splits.{split_of}
 use Rattle.yarn_tree.specs.Titles.{first_mistitled}
 use Rattle.yarn_tree.proofs.CountLemmas.{extra-few, few-extra}

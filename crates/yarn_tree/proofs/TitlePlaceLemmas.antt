@@ -1,8 +1,7 @@
 -- Where titles stand: the first that isn't well, and the headers of all.
-use Rattle.std.proofs.Common.{◌≡◌, ◌↔◌, ℕ, ◌+◌, List, [], ◌∷◌, ◌++◌, map, true, false, Bool, not, cond, ◌&&◌, ◌||◌, ◌⊎◌, inl, inr, is_some, is_none, Option, Some, None, refl, sym, ap, ◌∙◌, subst, append-nil}
+use Rattle.std.proofs.Common.{◌≡◌, ℕ, List, [], ◌∷◌, ◌++◌, true, false, Bool, not, cond, ◌&&◌, ◌||◌, inl, inr, is_some, Option, Some, None, refl, sym, ap, ◌∙◌}
 use Rattle.std.specs.Str.{chars}
 use Rattle.yarn_base.specs.Name.{is_name_of}
-use Rattle.yarn_base.specs.declared.Place.{Place}
 use Rattle.yarn_items.specs.declared.item.Header.{Header}
 use Rattle.yarn_items.specs.declared.item.Item.{Item}
 use Rattle.yarn_items.specs.declared.item.Item.TheVariants as item

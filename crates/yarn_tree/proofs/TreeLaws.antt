@@ -5,28 +5,27 @@ use Rattle.std.proofs.lemmas.List.Elements.{All-nil, All-cons, All-head, All-tai
 use Rattle.yarn_base.specs.declared.Place.{Place}
 use Rattle.yarn_base.specs.declared.SourceFile.{SourceFile}
 use Rattle.yarn_tree.specs.declared.refusal.RefusalKind.TheVariants as kind
-use Rattle.yarn_tree.specs.declared.stages.FileRead.{FileRead}
 use Rattle.yarn_tree.specs.declared.tree.File.{File}
 use Rattle.yarn_tree.specs.declared.tree.Node.{Node}
 use Rattle.yarn_tree.specs.declared.tree.Project.{Project}
 use Rattle.yarn_tree.specs.declared.tree.Stmt.{Stmt}
 use Rattle.yarn_tree.specs.declared.tree.Stmt.TheVariants.{Line, Jump}
 use Rattle.yarn_tree.specs.Checks.{titles_of, titles_seen, unknown_jump, first_unknown, unknown_in, ids_in, ids_within, ids_of}
-use Rattle.yarn_tree.specs.Laws.{ItemsAreFound, AreNotTooMuch, AreTitled, IsWellTitled, nodes_of, titles, jumps_of, IsAmong, AreDistinct, names_in, IsAgainAt, IsUnknownAt, jump_places_in, jump_places_within, jump_places, id_places_in, id_places_within, id_places}
+use Rattle.yarn_items.specs.Laws.{ItemsAreFound}
+use Rattle.yarn_tree.specs.Laws.{AreTitled, IsWellTitled, nodes_of, titles, jumps_of, IsAmong, AreDistinct, names_in, IsAgainAt, IsUnknownAt, jump_places_in, jump_places_within, jump_places, id_places_in, id_places_within, id_places}
 use Rattle.yarn_tree.specs.Names.{NameAt}
 use Rattle.yarn_tree.specs.Places.{or_later, at_file, first_place}
-use Rattle.yarn_tree.specs.Project.{ProjectOf, AllStandFor}
 use Rattle.yarn_tree.specs.Reader.{file_of}
 use Rattle.yarn_tree.specs.Reading.{Refuses, reading_of, project_of, tree_of}
 use Rattle.yarn_tree.specs.Splits.{split_of}
 use Rattle.yarn_tree.proofs.CountLemmas.{extra-few, few-extra}
-use Rattle.yarn_tree.proofs.KnownLemmas.{titles-all, ids-all}
+use Rattle.yarn_tree.proofs.KnownLemmas.{titles-all}
 use Rattle.yarn_tree.proofs.LawLemmas.{reads_in, places_in, trees_in, names-known, known-names}
 use Rattle.yarn_tree.proofs.LineLaws.{the-reading}
 use Rattle.yarn_tree.proofs.RefusalLemmas.{told-unknown, tell-unknown, told-twice, tell-twice}
 use Rattle.yarn_tree.proofs.SightLemmas.{Knows, no_sight-distinct, distinct-no_sight, no_sight-knows, no_sight-again, again-no_sight}
 use Rattle.yarn_tree.proofs.SizeLemmas.{not_too_much, none_too_much}
-use Rattle.yarn_tree.proofs.SourceLemmas.{AllClear, reads_from, clear-all, all-clear, all-stand, stand-clear, stand-trees}
+use Rattle.yarn_tree.proofs.SourceLemmas.{reads_from, clear-all, all-clear, all-stand, stand-clear, stand-trees}
 use Rattle.yarn_tree.proofs.WellLemmas.{all-well, well-all}
 
 -- The first jump to a name that isn't known.

@@ -1,5 +1,5 @@
 -- Files one after the other: their nodes are titled well.
-use Rattle.std.proofs.Common.{◌≡◌, ℕ, ◌+◌, List, [], ◌∷◌, ◌++◌, map, true, false, Option, Some, None, All, refl, sym, ap, ◌∙◌}
+use Rattle.std.proofs.Common.{◌≡◌, ℕ, ◌+◌, List, [], ◌∷◌, ◌++◌, map, true, false, None, All, refl, sym, ap, ◌∙◌}
 use Rattle.std.proofs.lemmas.List.Elements.{All-nil, All-cons, All-head, All-tail, All-append}
 use Rattle.yarn_base.specs.declared.SourceFile.{SourceFile}
 use Rattle.yarn_lines.specs.Lines.{lines_of}
@@ -7,14 +7,13 @@ use Rattle.yarn_items.specs.declared.item.Mode.TheVariants.{InHeaders}
 use Rattle.yarn_tree.specs.declared.stages.Note.TheVariants.{Mistitled}
 use Rattle.yarn_tree.specs.declared.tree.Node.{Node}
 use Rattle.yarn_tree.specs.Checks.{noted_in}
-use Rattle.yarn_tree.specs.Laws.{ItemsAreFound, nodes_of, IsWellTitled}
+use Rattle.yarn_items.specs.Laws.{ItemsAreFound}
+use Rattle.yarn_tree.specs.Laws.{nodes_of, IsWellTitled}
 use Rattle.yarn_tree.specs.Places.{first_place}
-use Rattle.yarn_tree.specs.Project.{StandsFor}
 use Rattle.yarn_tree.specs.Reader.{file_of}
 use Rattle.yarn_tree.specs.Reading.{tree_of}
 use Rattle.yarn_tree.specs.Splits.{split_of}
 use Rattle.yarn_tree.specs.Titles.{first_mistitled}
-use Rattle.yarn_tree.proofs.BodyLemmas.{HasGiven}
 use Rattle.yarn_tree.proofs.LinesLemmas.{IsClear, items_in, tree_in, items-have, clear-stands}
 use Rattle.yarn_tree.proofs.SourceLemmas.{or-none, none-or, at-none, none-at, AllClear, reads_from}
 use Rattle.yarn_tree.proofs.TitleLemmas.{file-well, well-file}

@@ -10,7 +10,7 @@ use Rattle.yarn_tree.specs.declared.stages.Note.TheVariants.{Bad, Misplaced, Mis
 use Rattle.yarn_tree.specs.declared.tree.Node.{Node}
 use Rattle.yarn_tree.specs.declared.tree.Stmt.{Stmt}
 use Rattle.yarn_tree.specs.declared.tree.Stmt.TheVariants.{Line, Jump}
-use Rattle.yarn_tree.specs.Places.{or_later, at_file, first_place}
+use Rattle.yarn_tree.specs.Places.{or_later, at_file}
 use Rattle.yarn_tree.specs.Names.{NameAt, Sight, no_sight, sees_all}
 
 -- what was noted of a file while its lines were read

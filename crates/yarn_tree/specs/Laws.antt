@@ -12,8 +12,6 @@ use Rattle.yarn_items.specs.declared.item.Mode.TheVariants.{InHeaders, InBody}
 use Rattle.yarn_items.specs.declared.item.Header.{Header}
 use Rattle.yarn_items.specs.declared.item.Item.{Item}
 use Rattle.yarn_items.specs.declared.item.Item.TheVariants as item
-use Rattle.yarn_items.specs.declared.item.Found.TheVariants.{Is, NotBuilt}
-use Rattle.yarn_items.specs.Form.{found_of}
 use Rattle.yarn_items.specs.Item.{IsItem, IsNotBuilt}
 use Rattle.yarn_tree.specs.declared.refusal.RefusalKind.TheVariants as kind
 use Rattle.yarn_tree.specs.declared.tree.File.{File}
@@ -26,16 +24,6 @@ use Rattle.yarn_tree.specs.Names.{NameAt}
 use Rattle.yarn_tree.specs.Project.{IsItems, IsFile, IsReadable, StandsFor, ProjectOf}
 use Rattle.yarn_tree.specs.Reading.{Reads, Refuses, reading_of, file_reading_of}
 use Rattle.yarn_tree.specs.Titles.{is_title}
-
--- What is known of the crate below.
-
--- the item that is found is the one that the text is
-abbrev pub ItemsAreFound : Type 0
-ItemsAreFound = (mode : Mode) (text : List ℕ) (item : Item) → (found_of mode text ≡ Is item) ↔ IsItem mode text item
-
--- a form that isn't read yet is found where the text is one
-abbrev pub NotBuiltIsFound : Type 0
-NotBuiltIsFound = (mode : Mode) (text : List ℕ) → (found_of mode text ≡ NotBuilt) ↔ IsNotBuilt mode text
 
 -- What is accepted, in the words of trees.
 

@@ -12,7 +12,6 @@ use Rattle.yarn_tree.specs.declared.stages.SplitFile.{SplitFile}
 use Rattle.yarn_tree.specs.declared.stages.FileRead.{FileRead}
 use Rattle.yarn_tree.specs.declared.structure.Stand.TheVariants.{Front}
 use Rattle.yarn_tree.specs.declared.tree.Node.{Node}
-use Rattle.yarn_tree.specs.Body.{ItemAt}
 use Rattle.yarn_tree.specs.Places.{or_later, at_file}
 use Rattle.yarn_tree.specs.Finds.{items_from, first_unbuilt, first_nothing}
 use Rattle.yarn_tree.specs.Structure.{mode_of, is_misplaced, stand_behind, first_misplaced}

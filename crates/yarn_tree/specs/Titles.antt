@@ -1,5 +1,5 @@
 -- The first place where a node isn't titled well (docs/language.md, Nodes and Refusals of a project).
-use Rattle.std.specs.Prelude.{ℕ, List, [], ◌∷◌, Bool, true, false, not, ◌&&◌, ◌||◌, if◌then◌else◌, Option, Some, None, codes}
+use Rattle.std.specs.Prelude.{ℕ, List, [], ◌∷◌, Bool, false, not, ◌&&◌, ◌||◌, if◌then◌else◌, Option, Some, None, codes}
 use Rattle.std.specs.Str.{bytes_eq, chars}
 use Rattle.yarn_base.specs.Name.{is_name_of}
 use Rattle.yarn_items.specs.declared.item.Header.{Header}

@@ -2,4 +2,4 @@ use Rattle.yarn_tree.proofs.TitleLaws.{bad_title}
 use Rattle.yarn_tree.proofs.laws.bad_title_is_right.Goals as goal
 
 pub returns : goal.returns
-returns c = bad_title c.requires.items
+returns c = bad_title c.items_are_found.ensures

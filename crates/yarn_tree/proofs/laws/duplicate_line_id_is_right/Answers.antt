@@ -2,4 +2,4 @@ use Rattle.yarn_tree.proofs.TreeLaws.{duplicate_line_id}
 use Rattle.yarn_tree.proofs.laws.duplicate_line_id_is_right.Goals as goal
 
 pub returns : goal.returns
-returns c = duplicate_line_id c.requires.items
+returns c = duplicate_line_id c.items_are_found.ensures

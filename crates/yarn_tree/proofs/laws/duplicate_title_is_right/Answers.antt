@@ -2,4 +2,4 @@ use Rattle.yarn_tree.proofs.TitleLaws.{duplicate_title}
 use Rattle.yarn_tree.proofs.laws.duplicate_title_is_right.Goals as goal
 
 pub returns : goal.returns
-returns c = duplicate_title c.requires.items
+returns c = duplicate_title c.items_are_found.ensures

@@ -2,4 +2,4 @@ use Rattle.yarn_tree.proofs.LawLemmas.{one_file}
 use Rattle.yarn_tree.proofs.laws.one_file.Goals as goal
 
 pub returns : goal.returns
-returns c = one_file c.requires.items
+returns c = one_file c.items_are_found.ensures

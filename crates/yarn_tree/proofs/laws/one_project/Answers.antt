@@ -2,4 +2,4 @@ use Rattle.yarn_tree.proofs.LawLemmas.{one_project}
 use Rattle.yarn_tree.proofs.laws.one_project.Goals as goal
 
 pub returns : goal.returns
-returns c = one_project c.requires.items
+returns c = one_project c.items_are_found.ensures

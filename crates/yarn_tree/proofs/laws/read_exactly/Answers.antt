@@ -2,4 +2,4 @@ use Rattle.yarn_tree.proofs.LawLemmas.{exactly}
 use Rattle.yarn_tree.proofs.laws.read_exactly.Goals as goal
 
 pub returns : goal.returns
-returns c = exactly c.requires.items
+returns c = exactly c.items_are_found.ensures

@@ -1,4 +1,4 @@
-use Rattle.std.proofs.Common.{sym, ◌∙◌}
+use Rattle.std.proofs.Common.{sym}
 use Rattle.yarn_tree.proofs.ReadLemmas.{big-told}
 use Rattle.yarn_tree.proofs.read.read_file.Goals as goal
 

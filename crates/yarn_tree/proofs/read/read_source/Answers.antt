@@ -1,7 +1,6 @@
-use Rattle.std.proofs.Common.{◌≡◌, sym, ap, subst}
-use Rattle.yarn_tree.specs.Reading.{Answers, IsFault}
+use Rattle.std.proofs.Common.{sym, subst}
+use Rattle.yarn_tree.specs.Reading.{Answers}
 use Rattle.yarn_tree.proofs.ReadLemmas.{alone-read, unalone-read}
-use Rattle.yarn_tree.proofs.SizeLemmas.{alone_small}
 use Rattle.yarn_tree.proofs.read.read_source.Goals as goal
 
 pub returns-in-Ok : goal.returns-in-Ok

@@ -1,5 +1,5 @@
-use Rattle.std.proofs.Common.{◌≡◌, sym, ap, subst}
-use Rattle.yarn_tree.specs.Reading.{Answers, IsFault}
+use Rattle.std.proofs.Common.{sym, subst}
+use Rattle.yarn_tree.specs.Reading.{Answers}
 use Rattle.yarn_tree.proofs.ReadLemmas.{split-read, unsplit-read}
 use Rattle.yarn_tree.proofs.SizeLemmas.{are_fine}
 use Rattle.yarn_tree.proofs.read.read_sources.Goals as goal
