@@ -97,7 +97,7 @@ abbrev pub node_ids : List Node → List (List ℕ)
 node_ids [] = []
 node_ids (node ∷ nodes) = line_ids node.body ++ node_ids nodes
 
--- no number from 7 on has a place
+-- what files stand for is accepted
 pub record AreAccepted (nodes : List Node) : Type 0 where
   pub few : length nodes ≤ 65536
   pub titled : All IsWellTitled nodes

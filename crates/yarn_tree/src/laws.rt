@@ -4,8 +4,8 @@ ghost use Rattle.yarn_tree.specs.Laws.{ReadExactly, FileReadExactly, OneProject,
 
 use yarn_items::{items_are_found, not_built_is_found};
 
-/// A project is read exactly where it isn't too much, its files stand for the trees, and no number from 7 on has a
-/// place in these.
+/// A project is read exactly where it isn't too much, its files stand for the trees, and these are accepted: they have
+/// few enough nodes, titled well, with different titles, jumps to nodes and different ids.
 pub fn read_exactly()
     ensures { ReadExactly }
 {
