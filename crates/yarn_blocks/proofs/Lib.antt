@@ -1,0 +1,11 @@
+pub mod HeldLemmas
+pub mod Noted
+pub mod Only
+pub mod Found
+pub mod Viable
+pub mod Places
+pub mod Outlines
+pub mod MarkLemmas
+pub mod LevelLemmas
+pub mod Views
+pub mod FrameLemmas

@@ -1,0 +1,11 @@
+pub mod Entries
+pub mod Tree
+pub mod Block
+pub mod Verdict
+pub mod Laws
+pub mod Reading
+pub mod Levels
+pub mod Outline
+pub mod View
+pub mod Frames
+pub mod Building

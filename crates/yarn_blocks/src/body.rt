@@ -1,0 +1,36 @@
+//! The statements of a body.
+ghost use Rattle.std.specs.Prelude.{◌≡◌, [], IfOk};
+ghost use Rattle.yarn_blocks.specs.Block.{Block};
+ghost use Rattle.yarn_blocks.specs.Building.{GivesStmts};
+ghost use Rattle.yarn_blocks.specs.Reading.{read};
+ghost use Rattle.yarn_blocks.specs.Verdict.{IsShallow};
+ghost use Rattle.yarn_blocks.specs.View.{stmts_of};
+
+use crate::entry::Entry;
+use crate::reading::{Fault, Reading};
+use crate::tree::Stmt;
+use std::alloc::Global;
+use yarn_base::{List, Memory};
+
+/// The statements that the lines of one body stand for. `judge` tells whether the condition holds, so a tree is as
+/// deep as 64 levels, and so is the recursion that lets it go.
+pub fn build(alloc: Global, entries: List<Entry>) -> Result<List<Stmt>, Memory>
+    requires { IsShallow entries }
+    ensures { IfOk result (λ stmts. Block entries [] (stmts_of stmts)) }
+{
+    match read_all(alloc, entries.into_vec()) {
+        Ok(stmts) => Ok(stmts),
+        Err(Fault::Memory) => Err(Memory),
+        Err(Fault::Refused) => unreachable!(),
+    }
+}
+
+fn read_all(alloc: Global, entries: Vec<Entry>) -> Result<List<Stmt>, Fault>
+    ensures { GivesStmts result (read entries.items) }
+{
+    let mut reading = Reading::new(alloc);
+    for entry in entries {
+        reading = reading.take_next(alloc, entry)?;
+    }
+    Ok(reading.finish()?)
+}
