@@ -217,12 +217,21 @@ fn words_are_the_commands_that_the_pages_say(rt: HostRuntime) -> Result<(), Fail
     Ok(())
 }
 
+// Each of the runs ends as its row says.
+fn expect_all(rt: &impl Abort, alloc: Global, cases: &[Case]) -> Result<(), Memory> {
+    for case in cases {
+        let (name, text, words, number, out, err) = *case;
+        let mut to = make_outside(alloc, text, HELLO)?;
+        let status = run(alloc, &words_of(alloc, words)?, &mut to);
+        expect(rt, name, (number, out, err), status, &to);
+    }
+    Ok(())
+}
+
 #[test]
-fn each_run_ends_as_the_pages_say(rt: HostRuntime) -> Result<(), Fail> {
-    let alloc = rt.alloc();
+fn each_play_ends_as_the_pages_say(rt: HostRuntime) -> Result<(), Fail> {
     let play: &[&str] = &["play", "a.yarn"];
-    let format: &[&str] = &["format", "a.yarn"];
-    let cases: [Case; 41] = [
+    let cases: [Case; 26] = [
         ("hello", HELLO, play, 0, "Hello\n", ""),
         ("empty", "title: Start\n---\n===\n", play, 0, "", ""),
         ("no nodes", "\n\n", play, 12, "", "no node Start\n"),
@@ -396,6 +405,23 @@ fn each_run_ends_as_the_pages_say(rt: HostRuntime) -> Result<(), Fail> {
             "a.yarn:4: NotBuilt\n",
         ),
         (
+            "missing file",
+            HELLO,
+            &["play", "no.yarn"],
+            6,
+            "",
+            "cannot read no.yarn\n",
+        ),
+    ];
+    expect_all(&rt, rt.alloc(), &cases)?;
+    Ok(())
+}
+
+#[test]
+fn each_format_ends_as_the_pages_say(rt: HostRuntime) -> Result<(), Fail> {
+    let format: &[&str] = &["format", "a.yarn"];
+    let cases: [Case; 8] = [
+        (
             "format",
             "title:Start\n---\n Go! \\# #x // note\n===\n",
             format,
@@ -445,6 +471,14 @@ fn each_run_ends_as_the_pages_say(rt: HostRuntime) -> Result<(), Fail> {
             "",
             "cannot read no.yarn\n",
         ),
+    ];
+    expect_all(&rt, rt.alloc(), &cases)?;
+    Ok(())
+}
+
+#[test]
+fn words_that_are_no_command_are_usage(rt: HostRuntime) -> Result<(), Fail> {
+    let cases: [Case; 7] = [
         ("no words", HELLO, &[], 5, "", USAGE),
         ("no file", HELLO, &["play"], 5, "", USAGE),
         (
@@ -480,20 +514,8 @@ fn each_run_ends_as_the_pages_say(rt: HostRuntime) -> Result<(), Fail> {
             USAGE,
         ),
         ("command not built", HELLO, &["check", "-x"], 5, "", USAGE),
-        (
-            "missing file",
-            HELLO,
-            &["play", "no.yarn"],
-            6,
-            "",
-            "cannot read no.yarn\n",
-        ),
     ];
-    for (name, text, words, number, out, err) in cases {
-        let mut to = make_outside(alloc, text, HELLO)?;
-        let status = run(alloc, &words_of(alloc, words)?, &mut to);
-        expect(&rt, name, (number, out, err), status, &to);
-    }
+    expect_all(&rt, rt.alloc(), &cases)?;
     Ok(())
 }
 
