@@ -1,5 +1,5 @@
 -- Entries with given marks, and the verdict on marks.
-use Rattle.std.proofs.Common.{◌≡◌, ℕ, true, List, [], ◌∷◌, Some, None, refl, sym, ap, ◌∙◌, subst}
+use Rattle.std.proofs.Common.{◌≡◌, ℕ, true, List, [], ◌∷◌, None, refl, sym, ap, ◌∙◌, subst}
 use mathlib.Core.Path.{ap₂}
 use Rattle.yarn_expr.specs.declared.tree.Expr.{Expr}
 use Rattle.yarn_expr.specs.declared.tree.Expr.TheVariants as expr
@@ -13,7 +13,7 @@ use Rattle.yarn_blocks.specs.declared.mark.Mark.{Mark}
 use Rattle.yarn_blocks.specs.declared.mark.Shape.{Shape}
 use Rattle.yarn_blocks.specs.declared.mark.Shape.TheVariants as shape
 use Rattle.yarn_blocks.specs.declared.verdict.Verdict.{Verdict}
-use Rattle.yarn_blocks.specs.Entries.{marks_of, shape_of, line_in, HaveLines}
+use Rattle.yarn_blocks.specs.Entries.{shape_of, line_in}
 use Rattle.yarn_blocks.specs.Laws.{WithMarks}
 use Rattle.yarn_blocks.specs.Outline.{verdict_in}
 use Rattle.yarn_blocks.specs.Verdict.{IsVerdict, IsVerdictOf}

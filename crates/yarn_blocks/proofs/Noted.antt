@@ -1,5 +1,5 @@
 -- The reading with notes: the first line that is too deep, and the first 65th option.
-use Rattle.std.proofs.Common.{◌≡◌, ℕ, List, [], ◌∷◌, length, Option, Some, None, refl, ap, ◌∙◌}
+use Rattle.std.proofs.Common.{◌≡◌, ℕ, List, [], ◌∷◌, length, Option, Some, None, refl}
 use Rattle.std.specs.Prelude.{option_and_then}
 use Rattle.yarn_blocks.specs.declared.entry.Entry.{Entry}
 use Rattle.yarn_blocks.specs.declared.entry.What.{What}

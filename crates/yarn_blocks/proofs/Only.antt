@@ -16,7 +16,7 @@ use Rattle.yarn_blocks.specs.declared.verdict.Excess.{Excess}
 use Rattle.yarn_blocks.specs.Reading.{Held, nothing_held, all_of, with_stmt, with_option, with_clause, Frame, InOption, InClause, InElse, State, settled, least, taken, placed, step}
 use Rattle.yarn_blocks.specs.Outline.{with_depth, with_count}
 use Rattle.yarn_blocks.proofs.HeldLemmas.{or-assoc, clauses-assoc, plus, plus-and_option, whole, deep-and_option, count_of, count-then, crowd_after, crowd-fresh, crowd-and_option}
-use Rattle.yarn_blocks.proofs.Noted.{Noted, Body, note, with_notes, noted_placed, noted_step, state_in, noted_resume, resume}
+use Rattle.yarn_blocks.proofs.Noted.{Noted, note, with_notes, noted_placed, noted_step, state_in, noted_resume, resume}
 
 -- each entry has at least this indent
 abbrev pub From : ℕ → List Entry → Type 0

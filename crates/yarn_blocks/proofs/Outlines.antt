@@ -13,15 +13,13 @@ use Rattle.yarn_blocks.specs.declared.level.Level.TheVariants.{OfOption, OfClaus
 use Rattle.yarn_blocks.specs.declared.outline.Outline.{Outline}
 use Rattle.yarn_blocks.specs.Levels.{low_of}
 use Rattle.yarn_blocks.specs.Entries.{mark_of, marks_of, shape_of, line_of, line_in, HaveLines}
-use Rattle.yarn_blocks.specs.Tree.{Offered, Asked, Stmts, Options, NoOptions, AndOption, options_then, over_64, behind_64}
+use Rattle.yarn_blocks.specs.Tree.{Asked, Options}
 use Rattle.yarn_blocks.specs.declared.verdict.Excess.{Excess}
-use Rattle.yarn_blocks.specs.declared.verdict.Verdict.{Verdict}
-use Rattle.yarn_blocks.specs.declared.verdict.Verdict.TheVariants as verdict
-use Rattle.yarn_blocks.specs.Reading.{Held, all_of, with_option, Frame, InOption, InClause, InElse, State, settled, least, next_clause, last_clause, end_of_if, taken, placed, ended}
-use Rattle.yarn_blocks.specs.Outline.{with_depth, with_count, one_more, Rest, settled_levels, outline_clause, outline_end, outline_taken, outline_placed, outline_settled, outline_step, verdict_end, verdict_after, verdict_from, verdict_in}
+use Rattle.yarn_blocks.specs.Reading.{Held, all_of, with_option, Frame, InOption, InClause, InElse, State, settled, least, next_clause, last_clause, end_of_if, taken, ended}
+use Rattle.yarn_blocks.specs.Outline.{with_depth, with_count, one_more, Rest, settled_levels, outline_clause, outline_end, outline_taken, outline_settled, outline_step, verdict_end, verdict_after, verdict_from, verdict_in}
 use Rattle.yarn_blocks.specs.Verdict.{IsVerdict}
 use Rattle.yarn_blocks.proofs.HeldLemmas.{count_of, count-then}
-use Rattle.yarn_blocks.proofs.Noted.{Noted, note, outside, with_notes, noted_placed, noted_step, state_in}
+use Rattle.yarn_blocks.proofs.Noted.{Noted, note, outside, with_notes, noted_placed, noted_step}
 use Rattle.yarn_blocks.proofs.Viable.{noted_start}
 use Rattle.yarn_blocks.proofs.Places.{answer_at_end, answer_after, answer_from, right}
 

@@ -7,9 +7,9 @@ use Rattle.yarn_blocks.specs.Block.{Block, Viable}
 use Rattle.yarn_blocks.specs.declared.verdict.Excess.{Excess}
 use Rattle.yarn_blocks.specs.declared.verdict.Verdict.{Verdict}
 use Rattle.yarn_blocks.specs.declared.verdict.Verdict.TheVariants as verdict
-use Rattle.yarn_blocks.specs.Reading.{State, start, go, step, settled, placed, finish, read}
+use Rattle.yarn_blocks.specs.Reading.{State, start, go, settled, placed, finish, read}
 use Rattle.yarn_blocks.specs.Verdict.{IsVerdict}
-use Rattle.yarn_blocks.proofs.Noted.{Noted, Body, note, with_notes, noted_step, body_with, state_in, noted_resume, resume, resume-go}
+use Rattle.yarn_blocks.proofs.Noted.{Noted, Body, note, with_notes, noted_step, body_with, state_in, noted_resume}
 use Rattle.yarn_blocks.proofs.Viable.{noted_start, block-noted, block-read, read-block, goes_on-viable, refused-not_viable}
 
 -- what begins entries that can become a block can

@@ -12,7 +12,7 @@ use Rattle.yarn_blocks.specs.Block.{Block, Viable}
 use Rattle.yarn_blocks.specs.Reading.{Held, nothing_held, all_of, with_stmt, with_option, with_clause, Frame, InOption, InClause, InElse, State, start, settled, least, next_clause, last_clause, end_of_if, taken, placed, step, go, read}
 use Rattle.yarn_blocks.specs.Outline.{no_excess}
 use Rattle.yarn_blocks.proofs.HeldLemmas.{whole, crowd-fresh}
-use Rattle.yarn_blocks.proofs.Noted.{Noted, Body, noted_resume, resume, resume-go, resume-notes, stmts_in}
+use Rattle.yarn_blocks.proofs.Noted.{Noted, noted_resume, resume, resume-go, resume-notes, stmts_in}
 use Rattle.yarn_blocks.proofs.Only.{From, Ends, ends-option, step-within, only}
 use Rattle.yarn_blocks.proofs.Found.{Gives, found}
 

@@ -1,5 +1,5 @@
 -- Laws about lists of entries and of marks.
-use Rattle.std.specs.Prelude.{◌≡◌, ℕ, List, [], ◌++◌, Some, None, MatchOption}
+use Rattle.std.specs.Prelude.{◌≡◌, List, [], ◌++◌, Some, None, MatchOption}
 use Rattle.yarn_blocks.specs.declared.entry.Entry.{Entry}
 use Rattle.yarn_blocks.specs.declared.mark.Mark.{Mark}
 use Rattle.yarn_blocks.specs.declared.verdict.Excess.{Excess}
