@@ -66,7 +66,7 @@ stops b fs top xs g = record { front = []; back = xs; stmts = Nil; cut = refl; b
 cons_cut : (x : Entry) (xs front back : List Entry) → xs ≡ front ++ back → x ∷ xs ≡ (x ∷ front) ++ back
 cons_cut x xs front back e = ap (λ l. x ∷ l) e
 
-From-append : (low : ℕ) (a b : List Entry) → From low a → From low b → From low (a ++ b)
+pub From-append : (low : ℕ) (a b : List Entry) → From low a → From low b → From low (a ++ b)
 From-append low [] b h k = k
 From-append low (x ∷ a) b h k = (h.0, From-append low a b h.1 k)
 
@@ -79,7 +79,7 @@ prepend_statement : (b : Stmts) (fs : List Frame) (top : Held) (x : Entry) (n : 
 prepend_statement b fs top x n xs w h r =
     record { front = x ∷ r.front; back = r.back; stmts = Cons (Leaf n) r.stmts; cut = cons_cut x xs r.front r.back r.cut; block = statement w r.block; deep = (h, r.deep); goes = r.goes }
 
-run-found : (k : ℕ) (run rest : List Entry) → From (k + 1) run → Ends k rest → run_of k (run ++ rest) ≡ run
+pub run-found : (k : ℕ) (run rest : List Entry) → From (k + 1) run → Ends k rest → run_of k (run ++ rest) ≡ run
 run-found k [] [] h e = refl
 run-found k [] (y ∷ ys) h e = rw (test-below k y.indent e) refl
 run-found k (x ∷ run) rest h e =

@@ -9,3 +9,6 @@ pub mod MarkLemmas
 pub mod LevelLemmas
 pub mod Views
 pub mod FrameLemmas
+pub mod Laid
+pub mod Renumber
+pub mod Injective

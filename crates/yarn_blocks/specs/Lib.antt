@@ -3,6 +3,8 @@ pub mod Tree
 pub mod Block
 pub mod Verdict
 pub mod Laws
+pub mod Layout
+pub mod LayoutLaws
 pub mod Reading
 pub mod Levels
 pub mod Outline

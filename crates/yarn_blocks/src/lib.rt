@@ -7,6 +7,7 @@ mod frame;
 mod frames;
 mod held;
 mod laws;
+mod layout_laws;
 mod level;
 mod levels;
 mod mark;
@@ -23,6 +24,7 @@ pub use laws::{
     blocks_are_read, blocks_are_shallow, fronts_are_viable, goes_on_where_viable,
     marks_have_entries, marks_tell, one_block, read_are_blocks,
 };
+pub use layout_laws::{laid_keeps_lines, laid_stands, lines_tell_nothing, one_tree};
 pub use mark::{Mark, Shape};
 pub use tree::{Clause, ElseClause, Head, LineText, OptionItem, Stmt};
 pub use verdict::{Excess, Verdict, judge};

@@ -7,7 +7,7 @@ use Rattle.std.specs.Str.{bytes_eq}
 use Rattle.std.proofs.lemmas.Slice.Eq.{bytes_eq-Decides}
 use Rattle.yarn_base.specs.declared.memory.Memory.{Memory}
 use Rattle.yarn_cli.specs.declared.command.CommandKind.{CommandKind}
-use Rattle.yarn_cli.specs.declared.command.CommandKind.TheVariants.{Play, Format}
+use Rattle.yarn_cli.specs.declared.command.CommandKind.TheVariants.{Check, Format, Play}
 use Rattle.yarn_cli.specs.declared.command.Pair.{Pair}
 use Rattle.yarn_cli.specs.Command.{Command, value_of}
 use Rattle.yarn_cli.specs.CommandLine.{Row, CommandLine, IsPairOf, Once, word_of, rows_of, row_in, dashed, fits_form, fits_row, is_count_of, are_names_of, spelled, spelled_pairs}
@@ -126,18 +126,23 @@ none-taken : (kind : CommandKind) → AreTaken kind []
 none-taken kind = record { pairs = All-nil (IsPairOf kind); once = tt }
 
 kind_of-word : (word : List ℕ) (kind : CommandKind) → kind_of word ≡ Some kind → word ≡ word_of kind
-kind_of-word word kind e = by_test (bytes_eq word (word_of Play)) (bytes_eq word (word_of Format)) refl refl
+kind_of-word word kind e = by_test (bytes_eq word (word_of Check)) (bytes_eq word (word_of Play)) (bytes_eq word (word_of Format)) refl refl refl
   where
-    by_test : (a b : Bool) → bytes_eq word (word_of Play) ≡ a → bytes_eq word (word_of Format) ≡ b → word ≡ word_of kind
-    by_test true b play format =
-        let h = rw play at e in
+    by_test : (a b c : Bool) → bytes_eq word (word_of Check) ≡ a → bytes_eq word (word_of Play) ≡ b → bytes_eq word (word_of Format) ≡ c →
+        word ≡ word_of kind
+    by_test true b c check play format =
+        let h = rw check at e in
+        let same : Check ≡ kind = cc in subst (λ (k : CommandKind). word ≡ word_of k) same ((bytes_eq-Decides word (word_of Check)).0 check)
+    by_test false true c check play format =
+        let h = rw (check, play) at e in
         let same : Play ≡ kind = cc in subst (λ (k : CommandKind). word ≡ word_of k) same ((bytes_eq-Decides word (word_of Play)).0 play)
-    by_test false true play format =
-        let h = rw (play, format) at e in
+    by_test false false true check play format =
+        let h = rw (check, play, format) at e in
         let same : Format ≡ kind = cc in subst (λ (k : CommandKind). word ≡ word_of k) same ((bytes_eq-Decides word (word_of Format)).0 format)
-    by_test false false play format = let h = rw (play, format) at e in absurd cc
+    by_test false false false check play format = let h = rw (check, play, format) at e in absurd cc
 
 of_word : (kind : CommandKind) → kind_of (word_of kind) ≡ Some kind
+of_word Check = refl
 of_word Play = refl
 of_word Format = refl
 

@@ -69,12 +69,12 @@ cut-fine before sum (file ∷ files) e =
         ap (λ (f : SourceFile). f ∷ map cut files) (cut-small file small)
         ∙ ap (λ (l : List SourceFile). file ∷ l) (later (rw much at e))
 
-pub reading-cut : (files : List SourceFile) → reading_of (map cut files) ≡ reading_of files
+pub reading-cut : (files : List SourceFile) → reading_of [] (map cut files) ≡ reading_of [] files
 unfolding reading_of
 reading-cut files = by_place (too_much 0 0 files) refl
   where
-    by_place : (o : Option Place) → too_much 0 0 files ≡ o → reading_of (map cut files) ≡ reading_of files
-    by_place None is = ap reading_of (cut-fine 0 0 files is)
+    by_place : (o : Option Place) → too_much 0 0 files ≡ o → reading_of [] (map cut files) ≡ reading_of [] files
+    by_place None is = ap (reading_of []) (cut-fine 0 0 files is)
     by_place (Some place) is = rw (too_much-cut 0 0 files, is) refl
 
 pub file_reading-cut : (file : SourceFile) → file_reading_of (cut file) ≡ file_reading_of file

@@ -4,3 +4,4 @@ pub mod CutLemmas
 pub mod PairsLemmas
 pub mod ReadLemmas
 pub mod WordsLemmas
+mod TreeLemmas

@@ -9,7 +9,7 @@ use Rattle.yarn_cli.specs.declared.message.Ended.{Ended}
 use Rattle.yarn_cli.specs.Command.{Command}
 use Rattle.yarn_cli.specs.Ended.{GivesSoFar}
 use Rattle.yarn_cli.specs.Messages.{name_at}
-use Rattle.yarn_cli.specs.Outcome.{Outcome, of_play, of_project, of_sources, of_file, of_format, of_text, printed}
+use Rattle.yarn_cli.specs.Outcome.{trees_of, of_check, of_checked, of_sources_checked, Outcome, of_play, of_project, of_sources, of_file, of_format, of_text, printed}
 use Rattle.yarn_cli.specs.Read.{cut, IsSource, IsAdded, AreCut, AreSources}
 use Rattle.yarn_cli.proofs.CutLemmas.{reading-cut, file_reading-cut}
 use Rattle.yarn_cli.specs.Sources.{Sources, Found, Missing, source_of, with_source, sources_of, IsFound, IsUnread}
@@ -124,24 +124,44 @@ Rose-later before mid now le rose = omega (arith, le, rose)
 -- what is made of the sources is the outcome
 
 of_play-cut : (command : Command) (named : Named) (names : List (List ℕ)) (files : List SourceFile) → names ≡ command.names →
-    AreCut (sources_of named names) files → of_play command named ≡ of_project command (reading_of files)
+    AreCut (sources_of named names) files → of_play command named ≡ of_project command (trees_of (reading_of [] files))
 of_play-cut command named names files is are =
     ap (λ (n : List (List ℕ)). of_sources command (sources_of named n)) (sym is) ∙ ap (of_sources command) are.found
-    ∙ ap (of_project command) (sym (reading-cut are.whole)) ∙ ap (λ (l : List SourceFile). of_project command (reading_of l)) (sym are.are)
+    ∙ ap (λ r. of_project command (trees_of r)) (sym (reading-cut are.whole)) ∙ ap (λ (l : List SourceFile). of_project command (trees_of (reading_of [] l))) (sym are.are)
 
 pub play_exact : (told : Option Named) (command : Command) (names : List (List ℕ)) (files : List SourceFile) (ended : Ended) (old new : Option (List ℕ)) →
-    names ≡ command.names → AreSources told names files → GivesSoFar (of_project command (reading_of files)) ended old new →
+    names ≡ command.names → AreSources told names files → GivesSoFar (of_project command (trees_of (reading_of [] files))) ended old new →
     IfSome told (λ named. GivesSoFar (of_play command named) ended old new)
 play_exact None command names files ended old new is are exact = tt
 play_exact (Some named) command names files ended old new is are exact =
     subst (λ (o : Outcome). GivesSoFar o ended old new) (sym (of_play-cut command named names files is are)) exact
 
 pub play_part : (told : Option Named) (command : Command) (names : List (List ℕ)) (files : List SourceFile) (old new : Option (List ℕ)) →
-    names ≡ command.names → AreSources told names files → WritesPart old new (of_project command (reading_of files)).out →
+    names ≡ command.names → AreSources told names files → WritesPart old new (of_project command (trees_of (reading_of [] files))).out →
     IfSome told (λ named. WritesPart old new (of_play command named).out)
 play_part None command names files old new is are part = tt
 play_part (Some named) command names files old new is are part =
     subst (λ (o : Outcome). WritesPart old new o.out) (sym (of_play-cut command named names files is are)) part
+
+of_check-cut : (command : Command) (named : Named) (names : List (List ℕ)) (files : List SourceFile) → names ≡ command.names →
+    AreCut (sources_of named names) files → of_check command named ≡ of_checked command (trees_of (reading_of [] files))
+of_check-cut command named names files is are =
+    ap (λ (n : List (List ℕ)). of_sources_checked command (sources_of named n)) (sym is) ∙ ap (of_sources_checked command) are.found
+    ∙ ap (λ r. of_checked command (trees_of r)) (sym (reading-cut are.whole)) ∙ ap (λ (l : List SourceFile). of_checked command (trees_of (reading_of [] l))) (sym are.are)
+
+pub check_exact : (told : Option Named) (command : Command) (names : List (List ℕ)) (files : List SourceFile) (ended : Ended) (old new : Option (List ℕ)) →
+    names ≡ command.names → AreSources told names files → GivesSoFar (of_checked command (trees_of (reading_of [] files))) ended old new →
+    IfSome told (λ named. GivesSoFar (of_check command named) ended old new)
+check_exact None command names files ended old new is are exact = tt
+check_exact (Some named) command names files ended old new is are exact =
+    subst (λ (o : Outcome). GivesSoFar o ended old new) (sym (of_check-cut command named names files is are)) exact
+
+pub check_part : (told : Option Named) (command : Command) (names : List (List ℕ)) (files : List SourceFile) (old new : Option (List ℕ)) →
+    names ≡ command.names → AreSources told names files → WritesPart old new (of_checked command (trees_of (reading_of [] files))).out →
+    IfSome told (λ named. WritesPart old new (of_check command named).out)
+check_part None command names files old new is are part = tt
+check_part (Some named) command names files old new is are part =
+    subst (λ (o : Outcome). WritesPart old new o.out) (sym (of_check-cut command named names files is are)) part
 
 of_file-cut : (command : Command) (name : List ℕ) (o : Option (List ℕ)) (file : SourceFile) → option_map (λ all. cut (source_of name all)) o ≡ Some file →
     of_file command name o ≡ of_text command.names (printed (file_reading_of file))

@@ -4,7 +4,7 @@ use Rattle.std.specs.Prelude.{◌≡◌, ℕ, List, [], ◌∷◌, ◌++◌, len
 use Rattle.std.specs.List.{All, list_all}
 use Rattle.std.specs.Str.{bytes_eq}
 use Rattle.yarn_cli.specs.declared.command.CommandKind.{CommandKind}
-use Rattle.yarn_cli.specs.declared.command.CommandKind.TheVariants.{Play, Format}
+use Rattle.yarn_cli.specs.declared.command.CommandKind.TheVariants.{Check, Format, Play}
 use Rattle.yarn_cli.specs.declared.words.Form.{Form}
 use Rattle.yarn_cli.specs.declared.words.Form.TheVariants.{Name, Number}
 use Rattle.yarn_cli.specs.declared.command.Pair.{Pair}
@@ -12,6 +12,7 @@ use Rattle.yarn_cli.specs.Command.{Command, value_of}
 use Rattle.yarn_cli.specs.Words.{is_name_word, number_in}
 
 abbrev pub word_of : CommandKind → List ℕ
+word_of Check = codes "check"
 word_of Play = codes "play"
 word_of Format = codes "format"
 
@@ -25,9 +26,11 @@ rows_of Play =
     record { name = codes "start"; form = Name }
     ∷ record { name = codes "limit"; form = Number 1 1000000000 } ∷ []
 rows_of Format = []
+rows_of Check = []
 
 -- how many names the command has
 abbrev pub is_count_of : CommandKind → ℕ → Bool
+is_count_of Check n = nat_lt 0 n
 is_count_of Play n = nat_lt 0 n
 is_count_of Format n = nat_eq n 1
 

@@ -2,7 +2,7 @@
 use Rattle.std.specs.Prelude.{ℕ, List, [], ◌∷◌, ◌++◌, is_none, ◌&&◌, if◌then◌else◌, Option, Some, None}
 use Rattle.std.specs.Str.{bytes_eq}
 use Rattle.yarn_cli.specs.declared.command.CommandKind.{CommandKind}
-use Rattle.yarn_cli.specs.declared.command.CommandKind.TheVariants.{Play, Format}
+use Rattle.yarn_cli.specs.declared.command.CommandKind.TheVariants.{Check, Format, Play}
 use Rattle.yarn_cli.specs.declared.command.Pair.{Pair}
 use Rattle.yarn_cli.specs.Command.{Command, value_of}
 use Rattle.yarn_cli.specs.CommandLine.{Row, word_of, rows_of, row_in, fits_form, are_names_of}
@@ -10,7 +10,8 @@ use Rattle.yarn_cli.specs.CommandLine.{Row, word_of, rows_of, row_in, fits_form,
 -- the kind whose word it is
 abbrev pub kind_of : List ℕ → Option CommandKind
 kind_of word =
-    if bytes_eq word (word_of Play) then Some Play
+    if bytes_eq word (word_of Check) then Some Check
+    else if bytes_eq word (word_of Play) then Some Play
     else if bytes_eq word (word_of Format) then Some Format
     else None
 

@@ -5,6 +5,8 @@ pub mod Found
 pub mod Laws
 pub mod Messages
 pub mod Outcome
+pub mod Answers
+pub mod Kinds
 pub mod Read
 pub mod Sources
 pub mod Status

@@ -20,8 +20,9 @@ use yarn_base::{List, Memory, Text, Words};
 /// The commands of this version.
 #[derive(Clone, Copy, Debug, PartialEq, Eq)]
 pub enum CommandKind {
-    Play,
+    Check,
     Format,
+    Play,
 }
 
 /// A pair that was given: its name without the `--`, and its value.
@@ -161,7 +162,7 @@ fn is_count(kind: CommandKind, count: usize) -> bool
     ensures { result ≡ is_count_of kind count }
 {
     match kind {
-        CommandKind::Play => 0 < count,
+        CommandKind::Check | CommandKind::Play => 0 < count,
         CommandKind::Format => count == 1,
     }
 }

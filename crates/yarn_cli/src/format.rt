@@ -13,7 +13,8 @@ use crate::read::read_source;
 use crate::{Command, CommandKind, Status};
 use std::alloc::Global;
 use yarn_base::{Files, IoFault, Sink, Source, SourceFile, Text, write_all};
-use yarn_tree::{ProjectFault, print_file, read_file};
+use yarn_print::print_file;
+use yarn_tree::{ProjectFault, read_file};
 
 /// Runs `format`: reads its file and writes the canonical text, and says on `err` why it ended otherwise than well
 /// (docs/commands.md, format).
@@ -103,6 +104,7 @@ fn format_source<O: Sink>(
 }
 
 // The canonical text of the source, which is let go as soon as it is read.
+#[tactic(auto, using(crate::proofs::TreeLemmas::text_printed, crate::proofs::TreeLemmas::fault_printed))]
 fn print_source(alloc: Global, source: SourceFile) -> Result<Text, ProjectFault>
     ensures { Answers (printed (file_reading_of source)) result }
 {

@@ -1,17 +1,21 @@
 //! The commands of `yarn`.
 #![tactic(auto)]
 
+mod check;
 mod command;
 mod format;
 pub mod laws;
 mod message;
 mod play;
+mod project;
 mod read;
 mod row;
 mod run;
 mod status;
+mod typing;
 mod words;
 
+pub use check::run_check;
 pub use command::{Command, CommandKind, read_words};
 pub use format::run_format;
 pub use play::run_play;

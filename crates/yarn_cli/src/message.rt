@@ -7,7 +7,7 @@ ghost use Rattle.yarn_cli.specs.Ended.{Tells};
 
 use crate::Status;
 use std::alloc::{AllocError, Global};
-use yarn_base::{IoFault, Sink, Words, write_all};
+use yarn_base::{IoFault, Place, Sink, Words, write_all};
 use yarn_tree::{Refusal, RefusalKind};
 
 const USAGE: &str = "usage: yarn check|format|strings|tag|compile|list|play|run|resume|demo\n";
@@ -121,14 +121,22 @@ pub(crate) fn write_failed(alloc: Global) -> Ended
 pub(crate) fn refused_at(alloc: Global, names: &Words, refusal: Refusal) -> Ended
     ensures cases { (result.status ≡ Status.RefusedProject) ⊎ (result.status ≡ Status.OutOfMemory) }
     ensures line { result.status ≡ Status.RefusedProject →
-        string_bytes result.line ≡ refused (name_at names.now refusal.place.file) refusal.kind refusal.place.line }
+        string_bytes result.line ≡ refused (name_at names.now refusal.place.file) (kind_text refusal.kind) refusal.place.line }
 {
-    let file = file_name(names, refusal.place.file);
-    let (line, kind) = (refusal.place.line, kind_name(refusal.kind));
+    refused_as(alloc, names, kind_name(refusal.kind), refusal.place)
+}
+
+/// A refusal by that name, with the name of its file among these.
+pub(crate) fn refused_as(alloc: Global, names: &Words, name: &str, place: Place) -> Ended
+    ensures cases { (result.status ≡ Status.RefusedProject) ⊎ (result.status ≡ Status.OutOfMemory) }
+    ensures line { result.status ≡ Status.RefusedProject →
+        string_bytes result.line ≡ refused (name_at names.now place.file) name.now place.line }
+{
+    let (file, line) = (file_name(names, place.file), place.line);
     Ended::with_line(
         alloc,
         Status::RefusedProject,
-        format!(in alloc; "{file}:{line}: {kind}\n"),
+        format!(in alloc; "{file}:{line}: {name}\n"),
     )
 }
 
@@ -150,13 +158,19 @@ fn kind_name(kind: RefusalKind) -> &'static str
         RefusalKind::TooMuch => "TooMuch",
         RefusalKind::BadUtf8 => "BadUtf8",
         RefusalKind::LineTooLong => "LineTooLong",
-        RefusalKind::NotBuilt => "NotBuilt",
         RefusalKind::BadLine => "BadLine",
         RefusalKind::BadStructure => "BadStructure",
+        RefusalKind::TooDeep => "TooDeep",
         RefusalKind::TooMany => "TooMany",
+        RefusalKind::Fraction => "Fraction",
+        RefusalKind::NumberTooLarge => "NumberTooLarge",
         RefusalKind::BadTitle => "BadTitle",
         RefusalKind::DuplicateTitle => "DuplicateTitle",
+        RefusalKind::ReservedName => "ReservedName",
+        RefusalKind::DuplicateDeclare => "DuplicateDeclare",
         RefusalKind::UnknownNode => "UnknownNode",
+        RefusalKind::UnknownFunction => "UnknownFunction",
+        RefusalKind::WrongArguments => "WrongArguments",
         RefusalKind::DuplicateLineId => "DuplicateLineId",
     }
 }

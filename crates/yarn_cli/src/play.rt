@@ -1,21 +1,25 @@
 //! `play`: plays a project and writes its transcript.
-ghost use Rattle.std.specs.Prelude.{◌≡◌, ◌≤◌, ◌⊎◌, List, ℕ, IfSome, IfOk, string_bytes};
+ghost use Rattle.std.specs.Prelude.{◌≡◌, ◌≤◌, ◌⊎◌, List, [], ℕ, map, IfSome, IfOk, string_bytes};
 ghost use Rattle.std.specs.Io.KnownBytes.{append_known};
 ghost use Rattle.yarn_base.specs.Causes.{Rose};
 ghost use Rattle.yarn_base.specs.Outside.{WritesPart};
 ghost use Rattle.yarn_player.specs.Stands.{stand_of, fault_of};
-ghost use Rattle.yarn_tree.specs.Reading.{Answers, reading_of};
+ghost use Rattle.yarn_tree.specs.Reading.{reading_of};
+ghost use Rattle.yarn_tree.specs.Trees.{file_tree};
+ghost use Rattle.yarn_cli.specs.Answers.{IsTreeAnswer};
 ghost use Rattle.yarn_cli.specs.Ended.{Says, SaysUnread, GivesSoFar};
 ghost use Rattle.yarn_cli.specs.Messages.{faulted, name_at, no_node, cannot_write};
-ghost use Rattle.yarn_cli.specs.Outcome.{of_play, of_project, of_files, of_stand, IsPlain, Gives, NamesRead};
+ghost use Rattle.yarn_cli.specs.Outcome.{of_play, of_project, of_trees, of_played, trees_of, of_files, of_stand, IsPlain, Gives, NamesRead};
 
-use crate::message::{Ended, file_name, read_failed, refused_at, write_failed};
+use crate::message::{Ended, file_name, read_failed, refused_as, refused_at, write_failed};
+use crate::project::project_of;
 use crate::read::{AllRead, read_all};
+use crate::typing::{refused_for_kinds, typing_of};
 use crate::{Command, CommandKind, Status};
 use std::alloc::{AllocError, Global};
 use yarn_base::{Files, List as Items, Sink, Source, SourceFile, Words};
-use yarn_player::{FaultAt, PlayEnd, PlayFault, play};
-use yarn_tree::{File, Project, ProjectFault, read_project};
+use yarn_player::{FaultAt, PlayEnd, PlayFault, first_unbuilt, play};
+use yarn_tree::{File, Project, ProjectFault};
 
 /// Runs `play`: reads all its files, plays the project that they are, and says on `err` why it ended otherwise than
 /// well (docs/commands.md, play).
@@ -88,32 +92,57 @@ fn play_sources<O: Sink>(
     out: &mut O,
 ) -> Ended
     ensures exact { IsPlain result.status →
-        GivesSoFar (of_project command.now (reading_of sources)) result (O.written out.old) (O.written out.new) }
-    ensures part { WritesPart (O.written out.old) (O.written out.new) (of_project command.now (reading_of sources)).out }
+        GivesSoFar (of_project command.now (trees_of (reading_of [] sources))) result (O.written out.old) (O.written out.new) }
+    ensures part { WritesPart (O.written out.old) (O.written out.new) (of_project command.now (trees_of (reading_of [] sources))).out }
     ensures write { result.status ≡ Status.WriteFault →
         Rose (O.faults out.old) (O.faults out.new) × (string_bytes result.line ≡ cannot_write) }
     ensures no_read { result.status ≡ Status.ReadFault → ⊥ }
     ensures count { O.faults out.old ≤ O.faults out.new }
 {
     match project_of(alloc, sources) {
-        Ok(project) => play_files(alloc, command, project.files.as_slice(), out),
+        Ok(project) => play_project(alloc, command, &project, out),
         Err(ProjectFault::Refused(refusal)) => refused_at(alloc, command.names(), refusal),
         Err(ProjectFault::Memory) => Ended::out_of_memory(alloc),
     }
 }
 
-// Reads the sources, and lets them go.
-fn project_of(alloc: Global, sources: Items<SourceFile>) -> Result<Project, ProjectFault>
-    ensures { Answers (reading_of sources) result }
+// Plays the project, where its variables have one kind each.
+fn play_project<O: Sink>(alloc: Global, command: &Command, project: &Project, out: &mut O) -> Ended
+    ensures exact { IsPlain result.status →
+        GivesSoFar (of_trees command.now (map file_tree project.now.files)) result (O.written out.old) (O.written out.new) }
+    ensures part { WritesPart (O.written out.old) (O.written out.new) (of_trees command.now (map file_tree project.now.files)).out }
+    ensures write { result.status ≡ Status.WriteFault →
+        Rose (O.faults out.old) (O.faults out.new) × (string_bytes result.line ≡ cannot_write) }
+    ensures no_read { result.status ≡ Status.ReadFault → ⊥ }
+    ensures count { O.faults out.old ≤ O.faults out.new }
 {
-    read_project(alloc, &sources)
+    match typing_of(alloc, project) {
+        Ok(_) => play_files(alloc, command, project.files.as_slice(), out),
+        Err(fault) => refused_for_kinds(alloc, command.names(), fault),
+    }
 }
 
-// Plays the files of the project.
+// Plays the files of the project, where all their statements can be played.
 fn play_files<O: Sink>(alloc: Global, command: &Command, files: &[File], out: &mut O) -> Ended
     ensures exact { IsPlain result.status →
-        GivesSoFar (of_files command.now files.now) result (O.written out.old) (O.written out.new) }
-    ensures part { WritesPart (O.written out.old) (O.written out.new) (of_files command.now files.now).out }
+        GivesSoFar (of_played command.now (map file_tree files.now)) result (O.written out.old) (O.written out.new) }
+    ensures part { WritesPart (O.written out.old) (O.written out.new) (of_played command.now (map file_tree files.now)).out }
+    ensures write { result.status ≡ Status.WriteFault →
+        Rose (O.faults out.old) (O.faults out.new) × (string_bytes result.line ≡ cannot_write) }
+    ensures no_read { result.status ≡ Status.ReadFault → ⊥ }
+    ensures count { O.faults out.old ≤ O.faults out.new }
+{
+    match first_unbuilt(files) {
+        Ok(None) => play_built(alloc, command, files, out),
+        Ok(Some(place)) => refused_as(alloc, command.names(), "NotBuilt", place),
+        Err(_) => Ended::out_of_memory(alloc),
+    }
+}
+
+fn play_built<O: Sink>(alloc: Global, command: &Command, files: &[File], out: &mut O) -> Ended
+    ensures exact { IsPlain result.status →
+        GivesSoFar (of_files command.now (map file_tree files.now)) result (O.written out.old) (O.written out.new) }
+    ensures part { WritesPart (O.written out.old) (O.written out.new) (of_files command.now (map file_tree files.now)).out }
     ensures write { result.status ≡ Status.WriteFault →
         Rose (O.faults out.old) (O.faults out.new) × (string_bytes result.line ≡ cannot_write) }
     ensures no_read { result.status ≡ Status.ReadFault → ⊥ }

@@ -19,8 +19,9 @@ pub(crate) fn kind_in_word(word: &str) -> Option<CommandKind>
     ensures { result ≡ kind_of word.now }
 {
     match word {
-        "play" => Some(CommandKind::Play),
+        "check" => Some(CommandKind::Check),
         "format" => Some(CommandKind::Format),
+        "play" => Some(CommandKind::Play),
         _ => None,
     }
 }
@@ -31,7 +32,7 @@ pub(crate) fn row_in_word(kind: CommandKind, word: &str) -> Option<Row>
 {
     match kind {
         CommandKind::Play => play_row(word),
-        CommandKind::Format => None,
+        CommandKind::Check | CommandKind::Format => None,
     }
 }
 

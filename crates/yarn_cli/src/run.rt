@@ -7,7 +7,7 @@ ghost use Rattle.yarn_cli.specs.Messages.{cannot_write};
 ghost use Rattle.yarn_cli.specs.Outcome.{outcome_of, of_command, IsPlain, Gives, NamesRead, NamesReadOf};
 
 use crate::message::{say_out_of_memory, say_usage};
-use crate::{Command, CommandKind, Status, read_words, run_format, run_play};
+use crate::{Command, CommandKind, Status, read_words, run_check, run_format, run_play};
 use std::alloc::Global;
 use yarn_base::{Files, Sink, Source, Words};
 
@@ -73,6 +73,7 @@ fn run_command<F: Files, I: Source, O: Sink, E: Sink>(
     ensures err_count { E.faults err.old ≤ E.faults err.new }
 {
     match command.kind() {
+        CommandKind::Check => run_check(alloc, command, files, input, out, err),
         CommandKind::Play => run_play(alloc, command, files, input, out, err),
         CommandKind::Format => run_format(alloc, command, files, input, out, err),
     }

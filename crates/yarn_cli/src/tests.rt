@@ -11,6 +11,12 @@ const LOOP: &str = "title: Loop\n---\nAgain\n<<jump Loop>>\n===\n";
 const PAIR: &str =
     "title: Start\n---\nTick\n<<jump Other>>\n===\ntitle: Other\n---\nTock\n<<jump  Start>>\n===\n";
 
+const NO_TYPING: &str = "title: Start\n---\n<<set $x to 1>>\n<<set $x to true>>\n===\n";
+
+const MANY_TYPINGS: &str = "title: Start\n---\n<<set $x to $y>>\n===\n";
+
+const OTHER_FRACTION: &str = "title: Other\n---\n{1.5}\n===\n";
+
 const SAME_ID: &str = "title: Start\n---\nHi #line:a\nHi #line:a\n===\n";
 
 const TO_OTHER: &str = "title: Start\n---\nHello\n<<jump Other>>\n===\n";
@@ -94,6 +100,7 @@ fn expect(rt: &impl Abort, name: &str, want: (u8, &str, &str), status: Status, t
 // A command as one text, with its pairs as they were given.
 fn shown(alloc: Global, command: &Command) -> Result<String, AllocError> {
     let mut text = match command.kind() {
+        CommandKind::Check => String::from_str(alloc, "check")?,
         CommandKind::Play => String::from_str(alloc, "play")?,
         CommandKind::Format => String::from_str(alloc, "format")?,
     };
@@ -123,7 +130,7 @@ fn found(alloc: Global, words: &[&str]) -> Result<String, Memory> {
 #[test]
 fn words_are_the_commands_that_the_pages_say(rt: HostRuntime) -> Result<(), Fail> {
     let alloc = rt.alloc();
-    let cases: [WordsCase; 34] = [
+    let cases: [WordsCase; 36] = [
         ("play", &["play", "a"], "play a"),
         ("files", &["play", "a", "b", "a"], "play a b a"),
         ("format", &["format", "a"], "format a"),
@@ -165,7 +172,9 @@ fn words_are_the_commands_that_the_pages_say(rt: HostRuntime) -> Result<(), Fail
         ("no words", &[], "none"),
         ("empty word", &[""], "none"),
         ("other word", &["Play", "a"], "none"),
-        ("command not built", &["check", "a"], "none"),
+        ("check", &["check", "a", "b"], "check a b"),
+        ("no file to check", &["check"], "none"),
+        ("command not built", &["strings", "a"], "none"),
         ("help", &["--help"], "none"),
         ("no file", &["play"], "none"),
         ("no file to format", &["format"], "none"),
@@ -231,7 +240,7 @@ fn expect_all(rt: &impl Abort, alloc: Global, cases: &[Case]) -> Result<(), Memo
 #[test]
 fn each_play_ends_as_the_pages_say(rt: HostRuntime) -> Result<(), Fail> {
     let play: &[&str] = &["play", "a.yarn"];
-    let cases: [Case; 26] = [
+    let cases: [Case; 28] = [
         ("hello", HELLO, play, 0, "Hello\n", ""),
         ("empty", "title: Start\n---\n===\n", play, 0, "", ""),
         ("no nodes", "\n\n", play, 12, "", "no node Start\n"),
@@ -397,17 +406,84 @@ fn each_play_ends_as_the_pages_say(rt: HostRuntime) -> Result<(), Fail> {
             "a.yarn:3: NotBuilt\n",
         ),
         (
-            "not built before bad",
+            "bad before not built",
             "hello\ntitle: Start\n---\n{1}\n===\n",
             play,
             2,
             "",
-            "a.yarn:4: NotBuilt\n",
+            "a.yarn:1: BadLine\n",
+        ),
+        (
+            "no typing before not built",
+            NO_TYPING,
+            play,
+            2,
+            "",
+            "a.yarn:4: NoTyping\n",
+        ),
+        (
+            "many typings before not built",
+            MANY_TYPINGS,
+            play,
+            2,
+            "",
+            "a.yarn:3: ManyTypings $x\n",
         ),
         (
             "missing file",
             HELLO,
             &["play", "no.yarn"],
+            6,
+            "",
+            "cannot read no.yarn\n",
+        ),
+    ];
+    expect_all(&rt, rt.alloc(), &cases)?;
+    Ok(())
+}
+
+#[test]
+fn each_check_ends_as_the_pages_say(rt: HostRuntime) -> Result<(), Fail> {
+    let check: &[&str] = &["check", "a.yarn"];
+    let cases: [Case; 7] = [
+        ("check", HELLO, check, 0, "ok 1 1 0\n", ""),
+        ("check of nothing", "// c\n", check, 0, "ok 1 0 0\n", ""),
+        (
+            "check of a file twice",
+            "",
+            &["check", "a.yarn", "a.yarn"],
+            0,
+            "ok 2 0 0\n",
+            "",
+        ),
+        (
+            "check of variables",
+            "title: Start\n---\n-> {$a + 1} <<if $b>>\n===\n",
+            check,
+            0,
+            "ok 1 1 2\n",
+            "",
+        ),
+        (
+            "check of no typing",
+            NO_TYPING,
+            check,
+            2,
+            "",
+            "a.yarn:4: NoTyping\n",
+        ),
+        (
+            "check of many typings",
+            MANY_TYPINGS,
+            check,
+            2,
+            "",
+            "a.yarn:3: ManyTypings $x\n",
+        ),
+        (
+            "check of a missing file",
+            HELLO,
+            &["check", "no.yarn"],
             6,
             "",
             "cannot read no.yarn\n",
@@ -457,11 +533,11 @@ fn each_format_ends_as_the_pages_say(rt: HostRuntime) -> Result<(), Fail> {
         ),
         (
             "format of an option",
-            "title: Start\n---\n-> A\n===\n",
+            "title: Start\n---\n->A<<if true>>\n\tB\n===\n",
             format,
-            2,
+            0,
+            "title: Start\n---\n-> A <<if true>>\n    B\n===\n",
             "",
-            "a.yarn:3: NotBuilt\n",
         ),
         (
             "format of a missing file",
@@ -513,7 +589,14 @@ fn words_that_are_no_command_are_usage(rt: HostRuntime) -> Result<(), Fail> {
             "",
             USAGE,
         ),
-        ("command not built", HELLO, &["check", "-x"], 5, "", USAGE),
+        (
+            "command not built",
+            HELLO,
+            &["strings", "a.yarn"],
+            5,
+            "",
+            USAGE,
+        ),
     ];
     expect_all(&rt, rt.alloc(), &cases)?;
     Ok(())
@@ -524,7 +607,6 @@ fn several_files_are_one_project(rt: HostRuntime) -> Result<(), Fail> {
     let alloc = rt.alloc();
     let both: &[&str] = &["play", "a.yarn", "b.yarn"];
     let bad = "hello\n";
-    let option = "title: Other\n---\n-> A\n===\n";
     let nowhere = "title: Other\n---\n<<jump Nowhere>>\n===\n";
     let same_id = "title: Other\n---\nHo #line:a\n===\n";
     let id = "title: Start\n---\nHi #line:a\n===\n";
@@ -565,11 +647,11 @@ fn several_files_are_one_project(rt: HostRuntime) -> Result<(), Fail> {
         ("first file", [bad, bad], both, 2, "", "a.yarn:1: BadLine\n"),
         (
             "least number",
-            [bad, option],
+            [OTHER_FRACTION, bad],
             both,
             2,
             "",
-            "b.yarn:3: NotBuilt\n",
+            "b.yarn:1: BadLine\n",
         ),
         (
             "title of both",

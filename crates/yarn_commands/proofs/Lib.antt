@@ -3,3 +3,4 @@ pub mod Sound
 pub mod Only
 pub mod ReadLaws
 pub mod Printed
+pub mod GameTokens

@@ -30,7 +30,7 @@ use Rattle.yarn_commands.proofs.Sound.{sign_at-sound}
 abbrev found : Command → List Token → Found
 found c ts = record { command = c; tokens = ts }
 
-expression-only : (cs : List ℕ) (ts : List Token) (e : Expr) → IsExpression cs ts e → expression cs ≡ Some (record { expr = e; tokens = ts })
+pub expression-only : (cs : List ℕ) (ts : List Token) (e : Expr) → IsExpression cs ts e → expression cs ≡ Some (record { expr = e; tokens = ts })
 unfolding expression
 expression-only cs ts e x =
     ap (λ o. o >>= λ us. read_all us >>= λ a. Some (record { expr = a; tokens = us })) x.has.lexed

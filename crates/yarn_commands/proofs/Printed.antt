@@ -99,7 +99,7 @@ pub record Again (piece : List ℕ) (e : Expr) : Type 0 where
   pub kept : AreKept tokens
   pub utf8 : IsUtf8 (canonical e)
 
-again : (e : Expr) (cs : List ℕ) (ts : List Token) → all_scalars cs ≡ true → IsExpression cs ts e → Again (chars (canonical e)) e
+pub again : (e : Expr) (cs : List ℕ) (ts : List Token) → all_scalars cs ≡ true → IsExpression cs ts e → Again (chars (canonical e)) e
 again e cs ts scalar x =
     let stands : StandsFor cs e = record { tokens = ts; tree = x.tree; has = x.has; is = x.is } in
     let P : List ℕ → Type 0 = λ l. StandsFor l e in
@@ -400,7 +400,7 @@ meant-again word.Call cs ts (command.Call e) scalar own h = call-again cs ts e s
 meant-again word.Other cs ts command.Game scalar own h = absurd (own refl)
 meant-again _ cs ts _ scalar own h = absurd h
 
-command-again : (cs : List ℕ) (ts : List Token) (c : Command) → all_scalars cs ≡ true → c ≢ command.Game → IsCommand cs ts c → IsKept (chars (content_text c)) c
+pub command-again : (cs : List ℕ) (ts : List Token) (c : Command) → all_scalars cs ≡ true → c ≢ command.Game → IsCommand cs ts c → IsKept (chars (content_text c)) c
 command-again [] ts c scalar own h = absurd h
 command-again (x ∷ xs) ts c scalar own h = meant-again (first_word_of (text_of (front continues_name (x ∷ xs)))) (past continues_name (x ∷ xs)) ts c (scalars-past continues_name (x ∷ xs) scalar) own h
 

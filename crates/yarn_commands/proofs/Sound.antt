@@ -35,7 +35,7 @@ spelled-is [] (d ∷ v) e = cc
 spelled-is (c ∷ w) [] e = cc
 spelled-is (c ∷ w) (d ∷ v) e = let both = and_parts (nat_eq c d) (pointwise nat_eq w v) e in ap (λ x. x ∷ w) (eqb-true c d both.0) ∙ ap (λ l. d ∷ l) (spelled-is w v both.1)
 
-expression-sound : (cs : List ℕ) (p : Part) → expression cs ≡ Some p → IsExpression cs p.tokens p.expr
+pub expression-sound : (cs : List ℕ) (p : Part) → expression cs ≡ Some p → IsExpression cs p.tokens p.expr
 unfolding expression
 expression-sound cs p e =
     let ts = bind_some (tokens_of cs) _ p e in

@@ -2,6 +2,6 @@ pub mod FirstWord
 pub mod Command
 pub mod Kept
 pub mod Reading
+pub mod Laws
 pub mod Parts
-pub mod Gives
 pub mod Print

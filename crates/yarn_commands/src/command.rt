@@ -1,6 +1,3 @@
-ghost use Rattle.std.specs.Prelude.{◌≡◌};
-ghost use Rattle.yarn_commands.specs.Kept.{form_of};
-
 use yarn_base::Text;
 use yarn_expr::{BinaryOp, Expr};
 use yarn_value::{Kind, Value};
@@ -30,39 +27,4 @@ pub enum Command {
     Call(Expr),
     /// A command for the game
     Game,
-}
-
-/// What a command is in the structure of a body.
-#[derive(Clone, Copy, Debug, PartialEq, Eq)]
-pub enum CommandForm {
-    /// `if`
-    If,
-    /// `elseif`
-    ElseIf,
-    /// `else`
-    Else,
-    /// `endif`
-    EndIf,
-    /// Any other command
-    Statement,
-}
-
-impl Command {
-    /// What it is in the structure of a body.
-    pub fn form(&self) -> CommandForm
-        ensures { result ≡ form_of self.now }
-    {
-        match self {
-            Command::If(_) => CommandForm::If,
-            Command::ElseIf(_) => CommandForm::ElseIf,
-            Command::Else => CommandForm::Else,
-            Command::EndIf => CommandForm::EndIf,
-            Command::Set(_, _, _) | Command::Declare(_, _, _) | Command::Jump(_) => {
-                CommandForm::Statement
-            }
-            Command::JumpTo(_) | Command::Stop | Command::Call(_) | Command::Game => {
-                CommandForm::Statement
-            }
-        }
-    }
 }

@@ -1,7 +1,7 @@
 //! Reads a content once from the left: its first word, and then the parts of that word's command.
 //!
 //! Each function gives a command with the tokens in which its literals stand; a literal that can't be kept
-//! stands as 0 there, and content.rt refuses it. `NotExpr` is the answer where there is no such part.
+//! stands as 0 in the command. `NotExpr` is the answer where there is no such part.
 ghost use Rattle.std.specs.Prelude.{◌≡◌, ◌++◌, ◌∷◌, [], MatchOption, IfOk, IfSome, IsUtf8, None, Some};
 ghost use Rattle.std.specs.Str.{chars};
 ghost use Rattle.yarn_expr.specs.Gives.{Gives};
@@ -18,16 +18,16 @@ use yarn_expr::{
     BinaryOp, Class, Expr, Refusal, Step, Token, cut, first_char, next_token, read_all, read_tokens,
 };
 
-/// A command, and the tokens in which its literals stand.
-#[derive(Drop)]
-pub(crate) struct Found {
+/// A command, and the tokens in which its literals stand. A literal that can't be kept stands as 0 in the command.
+#[derive(Debug, Drop)]
+pub struct Found {
     pub command: Command,
     pub tokens: List<Token>,
 }
 
-/// An expression with its tokens.
-#[derive(Drop)]
-pub(crate) struct Part {
+/// An expression with its tokens. A literal that can't be kept stands as 0 in the expression.
+#[derive(Debug, Drop)]
+pub struct Part {
     pub expr: Expr,
     pub tokens: List<Token>,
 }
@@ -44,7 +44,7 @@ fn whole(alloc: Global, command: Command) -> Found
 
 /// The expression that all of a text is.
 #[tactic(auto, unfolding(crate::specs::Reading::expression))]
-fn expression(alloc: Global, text: &str) -> Result<Part, Refusal>
+pub(crate) fn expression(alloc: Global, text: &str) -> Result<Part, Refusal>
     ensures { Gives (λ part. part) result (expression_of (chars text.now)) }
 {
     let tokens = read_tokens(alloc, text)?;

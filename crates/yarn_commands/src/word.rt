@@ -1,6 +1,7 @@
 //! The first words of commands.
 //!
-//! A new one is a line here, one in specs/FirstWord.antt, and one in `read_behind` of read.rt and its relation.
+//! A new one is a line here, one in specs/FirstWord.antt, one in `read_behind` of read.rt and its relation, and one
+//! in `may_be_for_game` of content.rt.
 ghost use Rattle.std.specs.Prelude.{◌≡◌};
 ghost use Rattle.yarn_commands.specs.FirstWord.{first_word_of};
 

@@ -1,8 +1,8 @@
--- The bytes that no name has: blanks, `:`, `>` and `#`.
+-- The bytes that no name has, blanks, `:` and `#` among them.
 use Rattle.std.proofs.Common.{◌≡◌, ℕ, ◌<◌, ◌≤◌, List, [], ◌∷◌, length, get_or, Bool, true, false, ◌||◌, nat_eq, ◌⊎◌, inl, inr, chars, encode_utf8, encode_utf8_all, refl, sym, ap, ◌∙◌, arith, append-nil}
 use Rattle.std.specs.List.{list_all, list_any}
 use Rattle.std.specs.Str.{is_utf8}
-use Rattle.std.proofs.lemmas.Bool.{eqb-true, or_cases, or_parts, or_from, and_parts, and_from, false_from_ne_true, cases_lt}
+use Rattle.std.proofs.lemmas.Bool.{eqb-true, or_cases, or_parts, or_from, and_parts, false_from_ne_true, cases_lt}
 use Rattle.std.proofs.lemmas.List.{get_or_default}
 use Rattle.std.proofs.lemmas.List.Folds.{list_any-append, list_any_none}
 use Rattle.std.proofs.lemmas.Str.{encodes-chars, IsUtf8-from_is_utf8, inside_one}
@@ -10,7 +10,6 @@ use Rattle.unicode_ident.proofs.IdentLemmas.{is_xid_start-ascii, is_xid_continue
 use Rattle.yarn_base.specs.Name.{starts_name, continues_name, is_name_of}
 use Rattle.yarn_lines.specs.Lines.{is_blank}
 use Rattle.yarn_items.specs.Item.{is_name_text}
-use Rattle.yarn_items.specs.Body.{is_word_byte}
 
 -- a blank, `:`, `>` or `#`
 abbrev pub is_out : ℕ → Bool
@@ -155,12 +154,3 @@ in-no_colon = any-less is_colon (λ b fine. (inner b fine).no_colon)
 
 pub in-no_hash : (bytes : List ℕ) → list_any is_out bytes ≡ false → list_any is_hash bytes ≡ false
 in-no_hash = any-less is_hash (λ b fine. (inner b fine).no_hash)
-
-word-byte : (b : ℕ) → is_out b ≡ false → is_word_byte b ≡ true
-word-byte b fine = let of = inner b fine in rw (of.solid, of.no_angle) refl
-
-pub in-word : (bytes : List ℕ) → list_any is_out bytes ≡ false → list_all is_word_byte bytes ≡ true
-in-word [] fine = refl
-in-word (b ∷ bytes) fine =
-    let both = or_parts (is_out b) (list_any is_out bytes) fine in
-    and_from (is_word_byte b) (list_all is_word_byte bytes) (word-byte b both.0) (in-word bytes both.1)

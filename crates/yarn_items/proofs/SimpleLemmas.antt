@@ -1,20 +1,20 @@
--- A simple line is the line with its own text and no hashtags.
-use Rattle.std.proofs.Common.{◌≡◌, ℕ, ◌+◌, List, [], ◌∷◌, ◌++◌, length, take, drop, Bool, true, false, not, nat_eq, codes, bytes_eq, refl, sym, ap, ◌∙◌, arith}
+-- A simple line is the line with its own text, no substitutions and no hashtags.
+use Rattle.std.proofs.Common.{◌≡◌, ℕ, ◌+◌, List, [], ◌∷◌, ◌++◌, length, Bool, true, false, not, nat_eq, Some, inl, codes, bytes_eq, refl, sym, ap, ◌∙◌, arith}
 use Rattle.std.specs.List.{list_any}
 use Rattle.std.proofs.lemmas.Bool.{eqb-true, or_parts, or_from, false_from_ne_true}
-use Rattle.std.proofs.lemmas.List.{length-append, take_all, drop_all}
+use Rattle.std.proofs.lemmas.List.{length-append}
 use Rattle.yarn_lines.specs.Lines.{is_blank, past_leading, without_trailing}
-use Rattle.yarn_items.specs.Text.{begins_other, begins_pair, trimmed}
+use Rattle.yarn_items.specs.Text.{Piece, Char, Pieces, no_piece, char, AreHoles, no_more, past_char, begins_other, begins_pair, kept_from, trimmed}
 use Rattle.yarn_items.specs.Item.{is_cr, is_option, is_command}
-use Rattle.yarn_items.specs.Cut.{text_length, unescaped, own_text, behind_text}
-use Rattle.yarn_items.specs.Body.{line_found, body_found}
+use Rattle.yarn_items.specs.TextForm.{text_found}
+use Rattle.yarn_items.specs.Heading.{bare}
+use Rattle.yarn_items.specs.Body.{line_of, line_found, body_found}
 use Rattle.yarn_items.specs.Form.{found_of}
 use Rattle.yarn_items.specs.Simple.{is_special, is_bare, is_simple}
 use Rattle.yarn_items.specs.declared.item.Mode.TheVariants.{InBody}
 use Rattle.yarn_items.specs.declared.item.Found.{Found}
-use Rattle.yarn_items.specs.declared.item.Found.TheVariants as found
 use Rattle.yarn_items.specs.declared.item.Item.TheVariants as item
-use Rattle.yarn_items.proofs.CutLemmas.{is_backslash, unescaped-same}
+use Rattle.yarn_items.proofs.TextLaws.{pieces-are-texts}
 use Rattle.yarn_items.proofs.Utf8Lemmas.{trailing, past_leading-length}
 
 -- Bytes that aren't special.
@@ -28,25 +28,32 @@ no_cr (b ∷ text) plain =
     let parts = or_parts (is_special b) (list_any is_special text) plain in
     or_from (is_cr b) (list_any is_cr text) (other-byte 13 b refl parts.0) (no_cr text parts.1)
 
-no_backslash : (text : List ℕ) → list_any is_special text ≡ false → list_any is_backslash text ≡ false
-no_backslash [] plain = refl
-no_backslash (b ∷ text) plain =
-    let parts = or_parts (is_special b) (list_any is_special text) plain in
-    or_from (is_backslash b) (list_any is_backslash text) (other-byte 92 b refl parts.0) (no_backslash text parts.1)
-
 begins-no_other : (b : ℕ) (bytes : List ℕ) → is_special b ≡ false → begins_other (b ∷ bytes) ≡ false
 begins-no_other b bytes plain = rw (other-byte 123 b refl plain, other-byte 35 b refl plain, other-byte 47 b refl plain, other-byte 60 b refl plain) refl
 
+-- the bytes as characters
+abbrev characters : List ℕ → List Piece
+characters [] = []
+characters (b ∷ bytes) = Char b ∷ characters bytes
+
+no_pair : (b : ℕ) (bytes : List ℕ) → is_special b ≡ false → begins_pair (b ∷ bytes) ≡ false
+no_pair b [] plain = refl
+no_pair b (c ∷ bytes) plain = rw (other-byte 92 b refl plain) refl
+
 -- the whole is the text
-whole-text : (text : List ℕ) → list_any is_special text ≡ false → text_length text ≡ length text
-whole-text [] plain = refl
-whole-text (b ∷ []) plain =
-    let parts = or_parts (is_special b) false plain in
-    rw (begins-no_other b [] parts.0) refl
-whole-text (b ∷ c ∷ bytes) plain =
-    let parts = or_parts (is_special b) (list_any is_special (c ∷ bytes)) plain in
-    let no_pair : begins_pair (b ∷ c ∷ bytes) ≡ false = rw (other-byte 92 b refl parts.0) refl in
-    rw (no_pair, begins-no_other b (c ∷ bytes) parts.0, whole-text (c ∷ bytes) parts.1) (omega arith)
+whole-text : (text : List ℕ) → list_any is_special text ≡ false → Pieces text (characters text) []
+whole-text [] plain = no_piece
+whole-text (b ∷ bytes) plain =
+    let parts = or_parts (is_special b) (list_any is_special bytes) plain in
+    char (no_pair b bytes parts.0) (begins-no_other b bytes parts.0) (whole-text bytes parts.1)
+
+no-holes : (text : List ℕ) → AreHoles (characters text) [] []
+no-holes [] = no_more
+no-holes (b ∷ bytes) = past_char (no-holes bytes)
+
+kept-same : (text : List ℕ) → kept_from 0 (characters text) ≡ text
+kept-same [] = refl
+kept-same (b ∷ bytes) = ap (λ l. b ∷ l) (kept-same bytes)
 
 no_command : (text : List ℕ) → list_any is_special text ≡ false → is_command text ≡ false
 no_command [] plain = refl
@@ -106,20 +113,20 @@ simple-parts text is = of (list_any is_special text) (is_option text) (bytes_eq 
     of false false false false false i j k l m = let h = rw (i, j, k, l, m) at is in absurd cc
 
 abbrev plain_line : List ℕ → Found
-plain_line text = found.Is (item.Line (record { text = text; tags = [] }))
+plain_line text = bare (item.Line (record { text = text; holes = []; tags = [] }))
 
-line-found : (text : List ℕ) → IsSimple text → line_found text [] ≡ plain_line text
-line-found text is = rw (is.some, is.no_end) refl
+simple-text : (text : List ℕ) → IsSimple text → text_found text ≡ Some (record { text = text; holes = []; tokens = []; rest = [] })
+simple-text text is =
+    pieces-are-texts text [] (characters text) [] [] (whole-text text is.plain) (no-holes text) (inl refl)
+    ∙ ap (λ own. Some (record { text = own; holes = []; tokens = []; rest = [] })) (ap trimmed (kept-same text) ∙ bare-trimmed text is.bare)
 
-simple-body : (text : List ℕ) → IsSimple text → body_found text ≡ plain_line text
-simple-body text is =
-    let whole = whole-text text is.plain in
-    let taken : take (text_length text) text ≡ text = ap (λ n. take n text) whole ∙ take_all (length text) text (omega arith) in
-    let own : own_text text ≡ text = ap (λ l. trimmed (unescaped l)) taken ∙ ap trimmed (unescaped-same text (no_backslash text is.plain)) ∙ bare-trimmed text is.bare in
-    let behind : behind_text text ≡ [] = ap (λ n. drop n text) whole ∙ drop_all (length text) text (omega arith) in
-    rw (is.no_end, is.no_option, no_command text is.plain) (ap (λ l. line_found l (behind_text text)) own ∙ ap (line_found text) behind ∙ line-found text is)
+simple-line : (text : List ℕ) → IsSimple text → line_found text ≡ Some (plain_line text)
+simple-line text is = ap line_of (simple-text text is) ∙ rw (is.some, is.no_end) refl
 
-pub found_of-simple : (text : List ℕ) → is_simple text ≡ true → found_of InBody text ≡ found.Is (item.Line (record { text = text; tags = [] }))
+simple-body : (text : List ℕ) → IsSimple text → body_found text ≡ Some (plain_line text)
+simple-body text is = rw (is.no_end, is.no_option, no_command text is.plain) (simple-line text is)
+
+pub found_of-simple : (text : List ℕ) → is_simple text ≡ true → found_of InBody text ≡ Some (bare (item.Line (record { text = text; holes = []; tags = [] })))
 unfolding found_of
 found_of-simple text is = let parts = simple-parts text is in rw (no_cr text parts.plain) (simple-body text parts)
 

@@ -6,15 +6,23 @@ use std::alloc::Global;
 use std::str;
 use yarn_base::{Memory, Text, is_name_str};
 
+/// The bytes as a text.
+pub(crate) fn text_of(bytes: &[u8]) -> &str
+    requires { IsUtf8 bytes.now }
+    ensures { result.now ≡ bytes.now }
+{
+    match str::from_utf8(bytes) {
+        Ok(text) => text,
+        Err(_) => unreachable!(),
+    }
+}
+
 /// A text of these bytes.
 pub(crate) fn copied(alloc: Global, bytes: &[u8]) -> Result<Text, Memory>
     requires { IsUtf8 bytes.now }
     ensures { IfOk result (λ text. text ≡ bytes.now) }
 {
-    match str::from_utf8(bytes) {
-        Ok(text) => Text::from_str(alloc, text),
-        Err(_) => unreachable!(),
-    }
+    Text::from_str(alloc, text_of(bytes))
 }
 
 /// The bytes as a name, where they are one.

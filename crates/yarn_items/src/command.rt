@@ -1,101 +1,97 @@
-//! What a line that begins with `<<` is: a jump to a name, or a command that isn't read yet.
-ghost use Rattle.std.specs.Prelude.{◌≡◌, ◌≤◌, length, IfOk, IsUtf8, Some};
-ghost use Rattle.std.specs.Option.{option_copied};
+//! A line that is a command.
+ghost use Rattle.std.specs.Prelude.{◌≡◌, IfOk, IsUtf8, Some};
+ghost use Rattle.std.specs.Str.{chars};
+ghost use Rattle.yarn_commands.specs.Reading.{content as content_of};
 ghost use Rattle.yarn_items.specs.Hashtags.{tags_of};
-ghost use Rattle.yarn_items.specs.Body.{behind, past_blanks, target, is_word_byte, word_length, past_end, jump_with, jump_to, target_found, command_found};
+ghost use Rattle.yarn_items.specs.TextForm.{game_found};
+ghost use Rattle.yarn_items.specs.Body.{is_game, game_with, command_with, command_tagged, command_found};
 
-use crate::bytes::name_in;
+use crate::bytes::text_of;
+use crate::content::{ContentRead, content_in};
+use crate::game::read_game;
 use crate::hashtags::tags_in;
-use crate::item::{Found, Item};
+use crate::item::{Found, Item, Said};
+use crate::literals::literals_in;
 use std::alloc::Global;
 use yarn_base::{List, Memory, Text};
+use yarn_commands::{Command, Found as CommandFound, may_be_for_game, read_command};
 use yarn_lines::without_blanks_before;
 
-/// What the command line is.
-pub(crate) fn read_command(alloc: Global, text: &[u8]) -> Result<Found, Memory>
-    requires { IsUtf8 text.now }
-    ensures { IfOk result (λ found. found ≡ command_found text.now) }
-{
-    match target_in(text) {
-        Some(bytes) => read_target(alloc, bytes),
-        None => Ok(Found::NotBuilt),
-    }
-}
-
-// What stands behind `<<`, `jump` and blanks.
-fn target_in(text: &[u8]) -> Option<&[u8]>
-    ensures { option_copied result ≡ target text.now }
-{
-    let content = text.strip_prefix(b"<<")?;
-    let behind = without_blanks_before(content).strip_prefix(b"jump")?;
-    past_blanks_in(behind)
-}
-
-// What stands behind one blank or more.
-fn past_blanks_in(bytes: &[u8]) -> Option<&[u8]>
-    ensures { option_copied result ≡ past_blanks bytes.now }
-{
-    match bytes {
-        [b' ' | b'\t', rest @ ..] => Some(without_blanks_before(rest)),
-        _ => None,
-    }
-}
-
-// The jump whose name begins there.
-fn read_target(alloc: Global, bytes: &[u8]) -> Result<Found, Memory>
+/// The command whose content begins there, behind a `<<`.
+pub(crate) fn read_command_line(alloc: Global, bytes: &[u8]) -> Result<Option<Found>, Memory>
     requires { IsUtf8 bytes.now }
-    ensures { IfOk result (λ found. found ≡ target_found (Some bytes.now)) }
+    ensures { IfOk result (λ found. found ≡ command_found bytes.now) }
 {
-    let end = word_length_in(bytes);
-    let name = &bytes[..end];
-    match past_end_in(&bytes[end..]) {
-        Some(rest) => read_jump(alloc, name, rest),
-        None => Ok(Found::NotBuilt),
+    let games = may_be_for_game(text_of(without_blanks_before(bytes)));
+    match content_in(games, bytes) {
+        Some(content) => read_command_in(alloc, content),
+        None => Ok(None),
     }
 }
 
-// How many bytes stand before the first blank or `>`.
-fn word_length_in(bytes: &[u8]) -> usize
-    ensures value { result ≡ word_length bytes.now }
-    ensures within { result ≤ length bytes.now }
+fn read_command_in(alloc: Global, content: ContentRead) -> Result<Option<Found>, Memory>
+    requires own { IsUtf8 content.own.now }
+    requires rest { IsUtf8 content.rest.now }
+    ensures { IfOk result (λ found. found ≡ command_tagged content.entry.own.now (tags_of content.entry.rest.now)) }
 {
-    for (at, byte) in bytes.iter().enumerate() {
-        if !is_word_byte_in(*byte) {
-            return at;
+    match tags_in(alloc, content.rest)? {
+        Some(tags) => read_command_with(alloc, content.own, tags),
+        None => Ok(None),
+    }
+}
+
+fn read_command_with(alloc: Global, own: &[u8], tags: List<Text>) -> Result<Option<Found>, Memory>
+    requires { IsUtf8 own.now }
+    ensures { IfOk result (λ found. found ≡ command_with own.now tags (content_of (chars own.now))) }
+{
+    match read_command(alloc, text_of(own))? {
+        Some(command) => read_command_of(alloc, own, tags, command),
+        None => Ok(None),
+    }
+}
+
+fn read_command_of(
+    alloc: Global,
+    own: &[u8],
+    tags: List<Text>,
+    command: CommandFound,
+) -> Result<Option<Found>, Memory>
+    requires { IsUtf8 own.now }
+    ensures { IfOk result (λ found. found ≡ command_with own.now tags (Some command)) }
+{
+    if is_game_in(&command.command) {
+        read_game_line(alloc, own, tags)
+    } else {
+        let literals = literals_in(command.tokens.as_slice());
+        Ok(Some(Found {
+            item: Item::Command(command.command, tags),
+            literals,
+        }))
+    }
+}
+
+fn is_game_in(command: &Command) -> bool
+    ensures { result ≡ is_game command.now }
+{
+    matches!(command, Command::Game)
+}
+
+fn read_game_line(alloc: Global, own: &[u8], tags: List<Text>) -> Result<Option<Found>, Memory>
+    requires { IsUtf8 own.now }
+    ensures { IfOk result (λ found. found ≡ game_with (game_found own.now) tags) }
+{
+    match read_game(alloc, own)? {
+        Some(game) => {
+            let said = Said {
+                text: game.text,
+                holes: game.holes,
+                tags,
+            };
+            Ok(Some(Found {
+                item: Item::Game(said),
+                literals: game.literals,
+            }))
         }
-    }
-    bytes.len()
-}
-
-fn is_word_byte_in(byte: u8) -> bool
-    ensures { result ≡ is_word_byte byte }
-{
-    byte != b' ' && byte != b'\t' && byte != b'>'
-}
-
-// What stands behind blanks and `>>`.
-fn past_end_in(bytes: &[u8]) -> Option<&[u8]>
-    ensures { option_copied result ≡ past_end bytes.now }
-{
-    without_blanks_before(bytes).strip_prefix(b">>")
-}
-
-fn read_jump(alloc: Global, name: &[u8], rest: &[u8]) -> Result<Found, Memory>
-    requires { IsUtf8 rest.now }
-    ensures { IfOk result (λ found. found ≡ jump_to name.now (Some rest.now)) }
-{
-    match name_in(name) {
-        Some(name) => read_jump_to(alloc, name, rest),
-        None => Ok(Found::NotBuilt),
-    }
-}
-
-fn read_jump_to(alloc: Global, name: &str, rest: &[u8]) -> Result<Found, Memory>
-    requires { IsUtf8 rest.now }
-    ensures { IfOk result (λ found. found ≡ jump_with name.now (tags_of rest.now)) }
-{
-    match tags_in(alloc, rest)? {
-        Some(tags) => Ok(Found::Is(Item::Jump(Text::from_str(alloc, name)?, tags))),
-        None => Ok(Found::Nothing),
+        None => Ok(None),
     }
 }

@@ -5,25 +5,26 @@ ghost use Rattle.yarn_items.specs.Heading.{length_to_colon, header_with, header_
 use crate::bytes::{copied, name_in};
 use crate::hashtags::are_tag_bytes;
 use crate::item::{Found, Header, Item};
+use crate::literals::bare;
 use std::alloc::Global;
 use yarn_base::{Memory, Text};
 use yarn_lines::{without_blanks, without_blanks_behind};
 
 /// The item of a text without a carriage return.
-pub(crate) fn read_heading(alloc: Global, text: &[u8]) -> Result<Found, Memory>
+pub(crate) fn read_heading(alloc: Global, text: &[u8]) -> Result<Option<Found>, Memory>
     requires { IsUtf8 text.now }
     ensures { IfOk result (λ found. found ≡ heading_found text.now) }
 {
     if text == b"---".as_slice() {
-        Ok(Found::Is(Item::BodyBegins))
+        Ok(bare(Item::BodyBegins))
     } else if text == b"===".as_slice() {
-        Ok(Found::Is(Item::NodeEnds))
+        Ok(bare(Item::NodeEnds))
     } else {
         read_tag_or_header(alloc, text)
     }
 }
 
-fn read_tag_or_header(alloc: Global, text: &[u8]) -> Result<Found, Memory>
+fn read_tag_or_header(alloc: Global, text: &[u8]) -> Result<Option<Found>, Memory>
     requires { IsUtf8 text.now }
     ensures { IfOk result (λ found. found ≡ tag_or_header text.now) }
 {
@@ -35,14 +36,14 @@ fn read_tag_or_header(alloc: Global, text: &[u8]) -> Result<Found, Memory>
 }
 
 // The file tag with that text behind its `#`.
-fn read_file_tag(alloc: Global, tag: &[u8]) -> Result<Found, Memory>
+fn read_file_tag(alloc: Global, tag: &[u8]) -> Result<Option<Found>, Memory>
     requires { IsUtf8 tag.now }
     ensures { IfOk result (λ found. found ≡ file_tag_found tag.now) }
 {
     if is_file_tag_in(tag) {
-        Ok(Found::Is(Item::FileTag(copied(alloc, tag)?)))
+        Ok(bare(Item::FileTag(copied(alloc, tag)?)))
     } else {
-        Ok(Found::Nothing)
+        Ok(None)
     }
 }
 
@@ -52,7 +53,7 @@ fn is_file_tag_in(tag: &[u8]) -> bool
     !tag.is_empty() && are_tag_bytes(tag)
 }
 
-fn read_header(alloc: Global, text: &[u8]) -> Result<Found, Memory>
+fn read_header(alloc: Global, text: &[u8]) -> Result<Option<Found>, Memory>
     requires { IsUtf8 text.now }
     ensures { IfOk result (λ found. found ≡ header_found text.now) }
 {
@@ -61,11 +62,11 @@ fn read_header(alloc: Global, text: &[u8]) -> Result<Found, Memory>
         let key = without_blanks_behind(&text[..colon]);
         read_header_with(alloc, key, without_blanks(&text[colon + 1..]))
     } else {
-        Ok(Found::Nothing)
+        Ok(None)
     }
 }
 
-fn read_header_with(alloc: Global, key: &[u8], value: &[u8]) -> Result<Found, Memory>
+fn read_header_with(alloc: Global, key: &[u8], value: &[u8]) -> Result<Option<Found>, Memory>
     requires { IsUtf8 value.now }
     ensures { IfOk result (λ found. found ≡ header_with key.now value.now) }
 {
@@ -73,9 +74,9 @@ fn read_header_with(alloc: Global, key: &[u8], value: &[u8]) -> Result<Found, Me
         Some(name) => {
             let key = Text::from_str(alloc, name)?;
             let value = copied(alloc, value)?;
-            Ok(Found::Is(Item::Header(Header { key, value })))
+            Ok(bare(Item::Header(Header { key, value })))
         }
-        None => Ok(Found::Nothing),
+        None => Ok(None),
     }
 }
 

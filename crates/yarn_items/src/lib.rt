@@ -2,18 +2,27 @@
 #![tactic(auto)]
 
 mod body;
+mod brace;
 mod bytes;
 mod command;
-mod cut;
+mod content;
+mod first;
+mod game;
 mod hashtags;
 mod heading;
 mod item;
 mod laws;
+mod line;
+mod literals;
+mod offer;
+mod pieces;
 mod read;
+mod run;
 mod table;
+mod text;
 
-pub use item::{Found, Header, Item, Mode, Said};
-pub use laws::{items_are_found, not_built_is_found, nothing_is_left, one_item};
+pub use item::{Found, Header, Item, Literals, Mode, Said};
+pub use laws::{items_are_found, nothing_is_left, one_item};
 pub use read::read_item;
 
 #[cfg(test)]

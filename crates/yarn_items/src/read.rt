@@ -1,5 +1,5 @@
 //! The item of a line.
-ghost use Rattle.std.specs.Prelude.{◌≡◌, Bool, IfOk};
+ghost use Rattle.std.specs.Prelude.{◌≡◌, IfOk};
 ghost use Rattle.std.specs.List.{list_any};
 ghost use Rattle.yarn_items.specs.Item.{is_cr};
 ghost use Rattle.yarn_items.specs.Form.{found_of};
@@ -8,11 +8,13 @@ ghost use Rattle.yarn_items.specs.declared.item.Mode.TheVariants.{InHeaders, InB
 use crate::body::{is_simple_in, read_body};
 use crate::heading::read_heading;
 use crate::item::{Found, Item, Mode, Said};
+use crate::literals::bare;
 use std::alloc::Global;
 use yarn_base::{List, Memory, Text};
 
-/// What the line of that mode is. The text is one of a line that counts, without the blanks around it.
-pub fn read_item(alloc: Global, mode: Mode, text: Text) -> Result<Found, Memory>
+/// What the line of that mode is; nothing where it is none of the lines of its mode. The text is one of a line that
+/// counts, without the blanks around it.
+pub fn read_item(alloc: Global, mode: Mode, text: Text) -> Result<Option<Found>, Memory>
     ensures { IfOk result (λ found. found ≡ found_of mode text) }
 {
     match mode {
@@ -22,11 +24,11 @@ pub fn read_item(alloc: Global, mode: Mode, text: Text) -> Result<Found, Memory>
 }
 
 #[tactic(auto, unfolding(crate::specs::Form::found_of))]
-fn read_in_headers(alloc: Global, text: &str) -> Result<Found, Memory>
+fn read_in_headers(alloc: Global, text: &str) -> Result<Option<Found>, Memory>
     ensures { IfOk result (λ found. found ≡ found_of InHeaders text.now) }
 {
     if has_cr(text.as_bytes()) {
-        Ok(Found::Nothing)
+        Ok(None)
     } else {
         read_heading(alloc, text.as_bytes())
     }
@@ -34,23 +36,26 @@ fn read_in_headers(alloc: Global, text: &str) -> Result<Found, Memory>
 
 // Keeps the text of a line that is its own text, and copies what it takes of the others.
 #[tactic(auto, using(crate::proofs::SimpleLemmas::simple_lines))]
-fn read_in_body(alloc: Global, text: Text) -> Result<Found, Memory>
+fn read_in_body(alloc: Global, text: Text) -> Result<Option<Found>, Memory>
     ensures { IfOk result (λ found. found ≡ found_of InBody text) }
 {
     if is_simple_in(text.as_str().as_bytes()) {
-        let tags = List::new(alloc);
-        Ok(Found::Is(Item::Line(Said { text, tags })))
+        Ok(bare(Item::Line(Said {
+            text,
+            holes: List::new(alloc),
+            tags: List::new(alloc),
+        })))
     } else {
         read_other(alloc, text.as_str())
     }
 }
 
 #[tactic(auto, unfolding(crate::specs::Form::found_of))]
-fn read_other(alloc: Global, text: &str) -> Result<Found, Memory>
+fn read_other(alloc: Global, text: &str) -> Result<Option<Found>, Memory>
     ensures { IfOk result (λ found. found ≡ found_of InBody text.now) }
 {
     if has_cr(text.as_bytes()) {
-        Ok(Found::Nothing)
+        Ok(None)
     } else {
         read_body(alloc, text.as_bytes())
     }

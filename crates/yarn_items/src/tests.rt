@@ -1,164 +1,336 @@
-use crate::{Found, Item, Mode, read_item};
+use crate::{Found, Item, Literals, Mode, Said, read_item};
+use std::alloc::Global;
 use std::process::Abort;
 use std::test::Fail;
-use yarn_base::{List, Text};
+use yarn_base::{List, Memory, Text};
+use yarn_commands::{Command, print_command};
+use yarn_expr::{Expr, print_expr};
 
-// What is expected of a line, with plain texts.
-#[derive(Clone, Copy, Debug)]
-enum Expected<'a> {
-    FileTag(&'a str),
-    Header(&'a str, &'a str),
-    BodyBegins,
-    NodeEnds,
-    Line(&'a str, &'a [&'a str]),
-    Jump(&'a str, &'a [&'a str]),
-    NotBuilt,
-    Nothing,
+// A part of an item, behind a `|`.
+fn push_part(shown: &mut Text, part: &str) -> Result<(), Memory> {
+    shown.push_str("|")?;
+    shown.push_str(part)?;
+    Ok(())
 }
 
-fn are_tags(tags: &List<Text>, expected: &[&str]) -> bool {
-    let tags = tags.as_slice();
-    tags.len() == expected.len()
-        && tags
-            .iter()
-            .zip(expected)
-            .all(|(tag, own)| tag.as_str() == *own)
+fn push_holes(alloc: Global, shown: &mut Text, holes: &List<Expr>) -> Result<(), Memory> {
+    for hole in holes.as_slice() {
+        let hole = print_expr(alloc, hole)?;
+        push_part(shown, hole.as_str())?;
+    }
+    Ok(())
 }
 
-fn is_expected(found: &Found, expected: Expected) -> bool {
-    match (found, expected) {
-        (Found::Is(Item::FileTag(tag)), Expected::FileTag(own)) => tag.as_str() == own,
-        (Found::Is(Item::Header(header)), Expected::Header(key, value)) => {
-            header.key.as_str() == key && header.value.as_str() == value
+fn push_tags(shown: &mut Text, tags: &List<Text>) -> Result<(), Memory> {
+    for tag in tags.as_slice() {
+        push_part(shown, "#")?;
+        shown.push_str(tag.as_str())?;
+    }
+    Ok(())
+}
+
+fn push_condition(alloc: Global, shown: &mut Text, condition: &Option<Expr>) -> Result<(), Memory> {
+    if let Some(condition) = condition {
+        let condition = print_expr(alloc, condition)?;
+        push_part(shown, "if ")?;
+        shown.push_str(condition.as_str())?;
+    }
+    Ok(())
+}
+
+// What is said, and the expressions of its substitutions.
+fn said_in(alloc: Global, kind: &str, said: &Said) -> Result<Text, Memory> {
+    let mut shown = Text::from_str(alloc, kind)?;
+    shown.push_str(said.text.as_str())?;
+    push_holes(alloc, &mut shown, &said.holes)?;
+    Ok(shown)
+}
+
+fn command_in(alloc: Global, command: &Command) -> Result<Text, Memory> {
+    let mut shown = Text::from_str(alloc, "command ")?;
+    let content = print_command(alloc, command)?;
+    shown.push_str(content.as_str())?;
+    Ok(shown)
+}
+
+fn heading_in(alloc: Global, item: &Item) -> Result<Text, Memory> {
+    match item {
+        Item::FileTag(tag) => {
+            let mut shown = Text::from_str(alloc, "tag ")?;
+            shown.push_str(tag.as_str())?;
+            Ok(shown)
         }
-        (Found::Is(Item::BodyBegins), Expected::BodyBegins) => true,
-        (Found::Is(Item::NodeEnds), Expected::NodeEnds) => true,
-        (Found::Is(Item::Line(said)), Expected::Line(text, tags)) => {
-            said.text.as_str() == text && are_tags(&said.tags, tags)
+        Item::Header(header) => {
+            let mut shown = Text::from_str(alloc, "header ")?;
+            shown.push_str(header.key.as_str())?;
+            push_part(&mut shown, header.value.as_str())?;
+            Ok(shown)
         }
-        (Found::Is(Item::Jump(name, own)), Expected::Jump(title, tags)) => {
-            name.as_str() == title && are_tags(own, tags)
-        }
-        (Found::NotBuilt, Expected::NotBuilt) => true,
-        (Found::Nothing, Expected::Nothing) => true,
-        _ => false,
+        Item::BodyBegins => Text::from_str(alloc, "begin"),
+        _ => Text::from_str(alloc, "end"),
     }
 }
 
-const IN_HEADERS: &[(&str, Expected<'static>)] = &[
-    ("---", Expected::BodyBegins),
-    ("===", Expected::NodeEnds),
-    ("=== // x", Expected::Nothing),
-    ("#tag", Expected::FileTag("tag")),
-    ("#a//b", Expected::FileTag("a//b")),
-    ("# tag", Expected::Nothing),
-    ("#tag x", Expected::Nothing),
-    ("#a#b", Expected::Nothing),
-    ("#", Expected::Nothing),
-    ("title:Start", Expected::Header("title", "Start")),
-    (
-        "title \t:  Start // x",
-        Expected::Header("title", "Start // x"),
-    ),
-    ("überschrift: ß", Expected::Header("überschrift", "ß")),
-    ("a.b_1:", Expected::Header("a.b_1", "")),
-    ("a: b: c", Expected::Header("a", "b: c")),
-    (": x", Expected::Nothing),
-    ("a b: c", Expected::Nothing),
-    ("1a: b", Expected::Nothing),
-    ("title: a\rb", Expected::Nothing),
-    ("hello", Expected::Nothing),
+fn body_in(alloc: Global, item: &Item) -> Result<Text, Memory> {
+    match item {
+        Item::Line(said) => {
+            let mut shown = said_in(alloc, "line ", said)?;
+            push_tags(&mut shown, &said.tags)?;
+            Ok(shown)
+        }
+        Item::Offer(said, condition) => {
+            let mut shown = said_in(alloc, "option ", said)?;
+            push_condition(alloc, &mut shown, condition)?;
+            push_tags(&mut shown, &said.tags)?;
+            Ok(shown)
+        }
+        Item::Command(command, tags) => {
+            let mut shown = command_in(alloc, command)?;
+            push_tags(&mut shown, tags)?;
+            Ok(shown)
+        }
+        Item::Game(said) => {
+            let mut shown = said_in(alloc, "game ", said)?;
+            push_tags(&mut shown, &said.tags)?;
+            Ok(shown)
+        }
+        _ => heading_in(alloc, item),
+    }
+}
+
+fn push_literals(shown: &mut Text, literals: Literals) -> Result<(), Memory> {
+    if literals.fraction {
+        push_part(shown, "fraction")?;
+    }
+    if literals.too_large {
+        push_part(shown, "too large")?;
+    }
+    Ok(())
+}
+
+fn shown(alloc: Global, found: &Option<Found>) -> Result<Text, Memory> {
+    match found {
+        Some(found) => {
+            let mut shown = body_in(alloc, &found.item)?;
+            push_literals(&mut shown, found.literals)?;
+            Ok(shown)
+        }
+        None => Text::from_str(alloc, "nothing"),
+    }
+}
+
+const HEADINGS: &[(&str, &str)] = &[
+    ("---", "begin"),
+    ("===", "end"),
+    ("=== // x", "nothing"),
+    ("#tag", "tag tag"),
+    ("#a//b", "tag a//b"),
+    ("# tag", "nothing"),
+    ("#tag x", "nothing"),
+    ("#a#b", "nothing"),
+    ("#", "nothing"),
+    ("title:Start", "header title|Start"),
+    ("title \t:  Start // x", "header title|Start // x"),
+    ("überschrift: ß", "header überschrift|ß"),
+    ("a.b_1:", "header a.b_1|"),
+    ("a: b: c", "header a|b: c"),
+    (": x", "nothing"),
+    ("a b: c", "nothing"),
+    ("1a: b", "nothing"),
+    ("title: a\rb", "nothing"),
+    ("hello", "nothing"),
+    ("-> a", "nothing"),
+    ("<<stop>>", "nothing"),
 ];
 
-const IN_BODY: &[(&str, Expected<'static>)] = &[
-    ("Hi you", Expected::Line("Hi you", &[])),
-    ("---", Expected::Line("---", &[])),
-    ("===", Expected::NodeEnds),
-    ("=== // x", Expected::Nothing),
-    ("=== #a", Expected::Nothing),
-    ("====", Expected::Line("====", &[])),
-    ("a\rb", Expected::Nothing),
-    ("-> a\rb", Expected::Nothing),
-    ("-> a", Expected::NotBuilt),
-    ("-\\> not", Expected::Line("-> not", &[])),
-    ("a -> b", Expected::Line("a -> b", &[])),
-    ("a\\", Expected::Line("a\\", &[])),
-    ("\\a \\\\#", Expected::Nothing),
-    ("\\a \\\\ #b", Expected::Line("\\a \\\\", &["b"])),
-    ("\\", Expected::Line("\\", &[])),
+const LINES: &[(&str, &str)] = &[
+    ("Hi you", "line Hi you"),
+    ("---", "line ---"),
+    ("===", "end"),
+    ("=== // x", "nothing"),
+    ("=== #a", "nothing"),
+    ("====", "line ===="),
+    ("a\rb", "nothing"),
+    ("-\\> not", "line -> not"),
+    ("a -> b", "line a -> b"),
+    ("a\\", "line a\\"),
+    ("\\a \\\\#", "nothing"),
+    ("\\a \\\\ #b", "line \\a \\\\|#b"),
+    ("\\[a\\] \\{b\\} \\< \\/", "line \\[a\\] \\{b\\} < /"),
+    ("#", "nothing"),
+    ("#a", "nothing"),
+    ("a #", "nothing"),
+    ("a# b", "nothing"),
+    ("a #b#c \t#d", "line a|#b|#c|#d"),
+    ("a #b //c", "line a|#b"),
+    ("x #a//b", "line x|#a//b"),
+    ("a #b c", "nothing"),
+    ("a #b {1} <<if x>>", "nothing"),
+    ("x // y", "line x"),
+    ("x//#y {", "line x"),
+    ("x / y <", "line x / y <"),
+    ("\\///x", "line /"),
+    (" a \\# #x", "line a #|#x"),
+    ("a #line:1 #b", "line a|#line:1|#b"),
+    ("a #line:1 #line:1", "nothing"),
+    ("a #line:", "nothing"),
+    ("a } b", "line a } b"),
+    ("ä \\#ü", "line ä #ü"),
+    ("<", "line <"),
+];
+
+const HOLES: &[(&str, &str)] = &[
+    ("{1 + 2}", "line {0}|1 + 2"),
+    ("a {1}{ $b } #c", "line a {0}{1}|1|$b|#c"),
+    ("{\"}\"}", "line {0}|\"}\""),
+    ("{\"\\\"}\"}", "line {0}|\"\\\"}\""),
+    ("a {1", "nothing"),
+    ("a {\"}", "nothing"),
+    ("a {}", "nothing"),
+    ("a {1 +}", "nothing"),
+    ("{1.5}", "line {0}|0|fraction"),
+    ("{9223372036854775808}", "line {0}|0|too large"),
     (
-        "\\[a\\] \\{b\\} \\< \\/",
-        Expected::Line("\\[a\\] \\{b\\} < /", &[]),
+        "{1.5 + 9223372036854775808}",
+        "line {0}|0 + 0|fraction|too large",
     ),
-    ("#", Expected::Nothing),
-    ("##", Expected::Nothing),
-    ("#a", Expected::Nothing),
-    ("a #", Expected::Nothing),
-    ("a##b", Expected::Nothing),
-    ("a# b", Expected::Nothing),
-    ("a#b", Expected::Line("a", &["b"])),
-    ("a #b#c \t#d", Expected::Line("a", &["b", "c", "d"])),
-    ("a #b //c", Expected::Line("a", &["b"])),
-    ("a #b // #c", Expected::Line("a", &["b"])),
-    ("x #a//b", Expected::Line("x", &["a//b"])),
-    ("a #b c", Expected::Nothing),
-    ("a #b /", Expected::Nothing),
-    ("a #b {1} <<if x>>", Expected::Nothing),
-    ("x // y", Expected::Line("x", &[])),
-    ("x//#y {1}", Expected::Line("x", &[])),
-    ("x / y <", Expected::Line("x / y <", &[])),
-    ("\\//x", Expected::Line("//x", &[])),
-    ("\\///x", Expected::Line("/", &[])),
-    ("\\# // x", Expected::Line("#", &[])),
-    (" a \\# #x", Expected::Line("a #", &["x"])),
-    ("a ", Expected::Line("a", &[])),
-    ("a #line:1", Expected::Line("a", &["line:1"])),
-    ("a #line:1 #b", Expected::Line("a", &["line:1", "b"])),
-    ("a #line:1 #line:1", Expected::Nothing),
-    ("a #line:", Expected::Nothing),
-    ("a #b #line:", Expected::Nothing),
-    ("a #line", Expected::Line("a", &["line"])),
-    ("{1}", Expected::NotBuilt),
-    ("a {1} #b", Expected::NotBuilt),
-    ("a \\{ b", Expected::Line("a \\{ b", &[])),
-    ("a } b", Expected::Line("a } b", &[])),
-    ("a <<if", Expected::NotBuilt),
-    ("a \\<< b", Expected::Line("a << b", &[])),
-    ("a \\<<< b", Expected::NotBuilt),
-    ("ä#ü", Expected::Line("ä", &["ü"])),
-    ("ä \\#ü", Expected::Line("ä #ü", &[])),
-    ("<<jump A>>", Expected::Jump("A", &[])),
-    ("<< jump A >> #t // c", Expected::Jump("A", &["t"])),
+    ("a <<if true>>", "nothing"),
+    ("a <<if", "nothing"),
+    ("a \\<< b", "line a << b"),
+];
+
+const OPTIONS: &[(&str, &str)] = &[
+    ("-> a", "option a"),
+    ("->a\\> {1} #t", "option a> {0}|1|#t"),
+    ("->", "nothing"),
+    ("-> #a", "nothing"),
+    ("-> ===", "option ==="),
+    ("-> a\rb", "nothing"),
+    ("-> a {", "nothing"),
+    ("-> a <<if $x>> #t", "option a|if $x|#t"),
+    (
+        "-> a {1.5}<<if 9223372036854775808 > 1>>// c",
+        "option a {0}|0|if 0 > 1|fraction|too large",
+    ),
+    ("-> a <<if \">>\" == $x>>", "option a|if \">>\" == $x"),
+    ("-> a <<if {$x}>>", "nothing"),
+    ("-> a <<else>>", "nothing"),
+    ("-> a <<if $x", "nothing"),
+    ("-> a <<if $x>> b", "nothing"),
+    ("-> a #t <<if $x>>", "nothing"),
+    ("-> <<if $x>>", "nothing"),
+    ("-> a #line:", "nothing"),
+];
+
+const COMMANDS: &[(&str, &str)] = &[
+    ("<<if $a>>", "command if $a"),
+    ("<<elseif $a and true>>", "command elseif $a and true"),
+    ("<<else>> #t", "command else|#t"),
+    ("<<endif>> // c", "command endif"),
+    ("<<set $x to 1>>", "command set $x to 1"),
+    ("<<set $x += 1.5>>", "command set $x += 0|fraction"),
+    (
+        "<<declare $x = 9223372036854775808>>",
+        "command declare $x = 0|too large",
+    ),
+    ("<< jump A >> #t // c", "command jump A|#t"),
     (
         "<<\tjump \t Ä.1>>#line:#line:",
-        Expected::Jump("Ä.1", &["line:", "line:"]),
+        "command jump Ä.1|#line:|#line:",
     ),
-    ("<<jump A>>// c", Expected::Jump("A", &[])),
-    ("<<jump A>> x", Expected::Nothing),
-    ("<<jump A>>>", Expected::Nothing),
-    ("<<jump>>", Expected::NotBuilt),
-    ("<<jump A B>>", Expected::NotBuilt),
-    ("<<jump {a}>>", Expected::NotBuilt),
-    ("<<jump 1>>", Expected::NotBuilt),
-    ("<<jumpA>>", Expected::NotBuilt),
-    ("<<jump A", Expected::NotBuilt),
-    ("<<jump A> >", Expected::NotBuilt),
-    ("<<wait 1>>", Expected::NotBuilt),
-    ("<<>>", Expected::NotBuilt),
-    ("<<", Expected::NotBuilt),
-    ("<", Expected::Line("<", &[])),
+    ("<<jump {\"A\"}>>", "command jump {\"A\"}"),
+    ("<<jump {\"{>>\"}>>", "command jump {\"{>>\"}"),
+    ("<<stop>>", "command stop"),
+    ("<<call f(1)>>", "command call f(1)"),
+    ("<<jump A>> x", "nothing"),
+    ("<<jump A>>>", "nothing"),
+    ("<<jump A", "nothing"),
+    ("<<jump A> >", "nothing"),
+    ("<<jump>>", "nothing"),
+    ("<<jump 1>>", "nothing"),
+    ("<<set $x>>", "nothing"),
+    ("<<enum A>>", "nothing"),
+    ("<<>>", "nothing"),
+    ("<< >>", "nothing"),
+    ("<<", "nothing"),
 ];
+
+const GAMES: &[(&str, &str)] = &[
+    ("<<wait>>", "game wait"),
+    ("<<wait {1}>> #t", "game wait {0}|1|#t"),
+    ("<<wait \"{>>\" >>", "nothing"),
+    ("<<wait \">>\" >>", "game wait \">>\""),
+    (
+        "<<wait \"{1}\" {\">>\"}>>",
+        "game wait \"{0}\" {1}|1|\">>\"",
+    ),
+    ("<<wait \"{\"}\"}\" >>", "game wait \"{0}\"|\"}\""),
+    ("<<a \\>> b>>", "game a \\>> b"),
+    ("<<a \\{ b>>", "game a \\{ b"),
+    ("<<a \\>>", "nothing"),
+    ("<<stop now>>", "game stop now"),
+    ("<<stop {1.5}>>", "game stop {0}|0|fraction"),
+    ("<<{1}>>", "game {0}|1"),
+    ("<<wait {1", "nothing"),
+    ("<<wait {1 +}>>", "nothing"),
+    ("<<wait 1.5>>", "game wait 1.5"),
+    ("<<wait>> x", "nothing"),
+];
+
+// What the text is read as.
+fn read_as(alloc: Global, mode: Mode, text: &str) -> Result<Text, Memory> {
+    match read_item(alloc, mode, Text::from_str(alloc, text)?) {
+        Ok(found) => shown(alloc, &found),
+        Err(_) => Err(Memory),
+    }
+}
+
+fn expect(
+    rt: &impl Abort,
+    alloc: Global,
+    mode: Mode,
+    text: &str,
+    expected: &str,
+) -> Result<(), Memory> {
+    let got = read_as(alloc, mode, text)?;
+    assert_eq!(rt; got.as_str(), expected, "of {text:?}");
+    Ok(())
+}
+
+fn expect_all(
+    rt: &impl Abort,
+    alloc: Global,
+    mode: Mode,
+    rows: &[(&str, &str)],
+) -> Result<(), Memory> {
+    for (text, expected) in rows {
+        expect(rt, alloc, mode, text, expected)?;
+    }
+    Ok(())
+}
+
+#[test]
+fn headings_are_read(rt: HostRuntime) -> Result<(), Fail> {
+    expect_all(&rt, rt.alloc(), Mode::InHeaders, HEADINGS)?;
+    Ok(())
+}
 
 #[test]
 fn lines_are_read(rt: HostRuntime) -> Result<(), Fail> {
-    let alloc = rt.alloc();
-    for (mode, rows) in [(Mode::InHeaders, IN_HEADERS), (Mode::InBody, IN_BODY)] {
-        for (text, expected) in rows {
-            let Ok(found) = read_item(alloc, mode, Text::from_str(alloc, text)?) else {
-                panic!(rt; "nothing told of {text:?}");
-            };
-            assert!(rt; is_expected(&found, *expected), "of {text:?}: {found:?}");
-        }
-    }
+    expect_all(&rt, rt.alloc(), Mode::InBody, LINES)?;
+    expect_all(&rt, rt.alloc(), Mode::InBody, HOLES)?;
+    Ok(())
+}
+
+#[test]
+fn options_are_read(rt: HostRuntime) -> Result<(), Fail> {
+    expect_all(&rt, rt.alloc(), Mode::InBody, OPTIONS)?;
+    Ok(())
+}
+
+#[test]
+fn commands_are_read(rt: HostRuntime) -> Result<(), Fail> {
+    expect_all(&rt, rt.alloc(), Mode::InBody, COMMANDS)?;
+    expect_all(&rt, rt.alloc(), Mode::InBody, GAMES)?;
     Ok(())
 }

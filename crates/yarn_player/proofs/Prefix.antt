@@ -1,6 +1,6 @@
 -- The first k events are the front of the first k + 1.
 use Rattle.std.proofs.Common.{ℕ, zero, suc, ◌+◌, ◌<◌, List, [], ◌∷◌, refl, ap, arith, append-nil, add-one}
-use Rattle.yarn_tree.specs.declared.tree.File.{File}
+use Rattle.yarn_tree.specs.Trees.{FileTree}
 use Rattle.yarn_player.specs.Meaning.{Event, Stand, Ended, Outcome, Behaviour, stands, emit, finishes, first_of}
 use Rattle.yarn_player.specs.Prefix.{IsPrefix}
 use Rattle.yarn_player.proofs.Fuel.{related_from}
@@ -31,6 +31,6 @@ stood n s = record { by = λ k lt. same (stands s 0) }
 finished : (n : ℕ) → Grow n finishes finishes
 finished n = record { by = λ k lt. same (finishes 0) }
 
-pub first_prefix : (files : List File) (start : List ℕ) (k : ℕ) → IsPrefix (first_of files start k) (first_of files start (k + 1))
+pub first_prefix : (files : List FileTree) (start : List ℕ) (k : ℕ) → IsPrefix (first_of files start k) (first_of files start (k + 1))
 first_prefix files start zero = record { rest = (first_of files start 1).events; joins = refl }
 first_prefix files start (suc k) = rw add-one ((related_from Grow none fewer emits stood finished files (suc k) start Ended).by k (omega arith))

@@ -1,11 +1,10 @@
 -- From one place of a walk to the next.
 use Rattle.std.proofs.Common.{◌≡◌, ℕ, zero, suc, ◌<◌, List, [], ◌∷◌, ◌++◌, length, Some, Bor, refl, sym, ap, ◌∙◌, arith}
-use Rattle.yarn_tree.specs.declared.tree.File.{File}
-use Rattle.yarn_tree.specs.declared.tree.Head.{Head}
-use Rattle.yarn_tree.specs.declared.tree.LineText.{LineText}
-use Rattle.yarn_tree.specs.declared.tree.Stmt.{Stmt}
-use Rattle.yarn_tree.specs.declared.tree.Stmt.TheVariants.{Line, Jump}
-use Rattle.yarn_player.specs.Meaning.{Event, NodeStart, LineSaid, NodeEnd, Stand, Behaviour, stands, with_event, emit, finishes, Placed, find, in_body, from, first_of}
+use Rattle.yarn_blocks.specs.declared.tree.Stmt.{Stmt}
+use Rattle.yarn_blocks.specs.Tree.{Stmts}
+use Rattle.yarn_blocks.specs.View.{stmts_of, stmt_of}
+use Rattle.yarn_tree.specs.Trees.{FileTree}
+use Rattle.yarn_player.specs.Meaning.{Event, NodeStart, LineSaid, NodeEnd, Stand, Behaviour, Through, Jumps, does, stopped, stands, with_event, emit, finishes, Placed, find, in_body, from, first_of}
 use Rattle.yarn_player.specs.Template.{expanded}
 use Rattle.yarn_player.specs.Titles.{placed}
 use Rattle.yarn_player.specs.Transcript.{shown, transcript}
@@ -40,33 +39,33 @@ finished : (n : ℕ) → Agree n finishes finishes
 finished n = record { by = λ k lt. refl }
 
 -- room for one node more changes nothing
-body_agrees : (files : List File) (n : Placed) (ss : List Stmt) (k : ℕ) → in_body (from files (suc k)) n ss k ≡ in_body (from files k) n ss k
+body_agrees : (files : List FileTree) (n : Placed) (ss : Stmts) (k : ℕ) → in_body (from files (suc k)) n ss k ≡ in_body (from files k) n ss k
 body_agrees files n ss k =
     sym ((related_body Agree none fewer emits stood finished k (from files k) (from files (suc k)) (related_from Agree none fewer emits stood finished files k) n ss).by k (omega arith))
 
 -- one event from the one place to the other
-abbrev Gives : List File → Place → Event → Place → Type 0
+abbrev Gives : List FileTree → Place → Event → Place → Type 0
 Gives files old e new = (k : ℕ) → first_from files old (suc k) ≡ with_event e (first_from files new k)
 
-passes : (files : List File) (old : Place) (e : Event) (new : Place) → Gives files old e new → Passes files old (shown e) new
+passes : (files : List FileTree) (old : Place) (e : Event) (new : Place) → Gives files old e new → Passes files old (shown e) new
 passes files old e new g k = (ap (λ o. transcript o.events) (g k), ap (λ o. o.stand) (g k))
 
 -- the event is the first of the body, and the other place goes on with the rest
-body_gives : (files : List File) (n : NodeAt) (e : Event) (ss rest : List Stmt) →
+body_gives : (files : List FileTree) (n : NodeAt) (e : Event) (ss rest : Stmts) →
     ((fuel : ℕ) → in_body (from files fuel) (placed n) ss ≡ emit e (in_body (from files fuel) (placed n) rest)) →
-    (old new : Bor (List Stmt)) → old.now ≡ ss → new.now ≡ rest → Gives files (Within n old) e (Within n new)
+    (old new : Bor (List Stmt)) → stmts_of old.now ≡ ss → stmts_of new.now ≡ rest → Gives files (Within n old) e (Within n new)
 body_gives files n e ss rest one old new eo en zero = rw eo (ap (λ b. b 0) (one 0))
 body_gives files n e ss rest one old new eo en (suc k) =
     rw (eo, en) (ap (λ b. b (suc k)) (one (suc k)) ∙ ap (with_event e) (body_agrees files (placed n) rest k))
 
-pub enters_turns : (files : List File) (n : NodeAt) (ss : Bor (List Stmt)) → ss.now ≡ n.node.now.body → Turns files (Enters n) Quiet (Within n ss)
+pub enters_turns : (files : List FileTree) (n : NodeAt) (ss : Bor (List Stmt)) → ss.now ≡ n.node.now.body → Turns files (Enters n) Quiet (Within n ss)
 enters_turns files n ss e = passes files (Enters n) (NodeStart n.node.now.title) (Within n ss) gives
   where
     gives : Gives files (Enters n) (NodeStart n.node.now.title) (Within n ss)
     gives zero = refl
-    gives (suc k) = rw e (ap (with_event (NodeStart n.node.now.title)) (body_agrees files (placed n) n.node.now.body k))
+    gives (suc k) = rw e (ap (with_event (NodeStart n.node.now.title)) (body_agrees files (placed n) (stmts_of n.node.now.body) k))
 
-pub end_turns : (files : List File) (n : NodeAt) (ss : Bor (List Stmt)) → length ss.now ≡ 0 → Turns files (Within n ss) Quiet Finishes
+pub end_turns : (files : List FileTree) (n : NodeAt) (ss : Bor (List Stmt)) → length ss.now ≡ 0 → Turns files (Within n ss) Quiet Finishes
 end_turns files n ss none = passes files (Within n ss) (NodeEnd n.node.now.title) Finishes (gives (no_statement ss.now none))
   where
     no_statement : (l : List Stmt) → length l ≡ 0 → l ≡ []
@@ -77,29 +76,39 @@ end_turns files n ss none = passes files (Within n ss) (NodeEnd n.node.now.title
     gives e zero = rw e refl
     gives e (suc k) = rw e refl
 
-pub line_turns : (files : List File) (n : NodeAt) (ss rest : Bor (List Stmt)) (line : LineText) →
-    ss.now ≡ Line line ∷ rest.now → Passes files (Within n ss) (expanded line.text ++ 10 ∷ []) (Within n rest)
-line_turns files n ss rest line e =
-    passes files (Within n ss) (LineSaid line.id line.text) (Within n rest)
-    (body_gives files n (LineSaid line.id line.text) (Line line ∷ rest.now) rest.now (λ fuel. refl) ss rest e refl)
+pub line_turns : (files : List FileTree) (n : NodeAt) (ss rest : Bor (List Stmt)) (s : Stmt) (id text : List ℕ) →
+    ss.now ≡ s ∷ rest.now → does (stmt_of s) ≡ record { events = LineSaid id text ∷ []; exit = Through } →
+    Passes files (Within n ss) (expanded text ++ 10 ∷ []) (Within n rest)
+line_turns files n ss rest s id text e does_so =
+    passes files (Within n ss) (LineSaid id text) (Within n rest)
+    (body_gives files n (LineSaid id text) (stmts_of (s ∷ rest.now)) (stmts_of rest.now) (λ fuel. rw does_so refl) ss rest (ap stmts_of e) refl)
 
-pub jump_turns : (files : List File) (n : NodeAt) (ss : Bor (List Stmt)) (head : Head) (name : List ℕ) (rest : List Stmt) (new : Place) →
-    ss.now ≡ Jump head name ∷ rest → Leads files (placed n) head.line name new → Turns files (Within n ss) Quiet new
-jump_turns files n ss head name rest (Enters m) e leads = passes files (Within n ss) (NodeEnd n.node.now.title) (Enters m) gives
+pub stop_turns : (files : List FileTree) (n : NodeAt) (ss : Bor (List Stmt)) (s : Stmt) (rest : List Stmt) →
+    ss.now ≡ s ∷ rest → does (stmt_of s) ≡ stopped → Turns files (Within n ss) Quiet Finishes
+stop_turns files n ss s rest e does_so = passes files (Within n ss) (NodeEnd n.node.now.title) Finishes gives
+  where
+    gives : Gives files (Within n ss) (NodeEnd n.node.now.title) Finishes
+    gives zero = rw (e, does_so) refl
+    gives (suc k) = rw (e, does_so) refl
+
+pub jump_turns : (files : List FileTree) (n : NodeAt) (ss : Bor (List Stmt)) (s : Stmt) (line : ℕ) (name : List ℕ) (rest : List Stmt) (new : Place) →
+    ss.now ≡ s ∷ rest → does (stmt_of s) ≡ record { events = []; exit = Jumps line name } → Leads files (placed n) line name new →
+    Turns files (Within n ss) Quiet new
+jump_turns files n ss s line name rest (Enters m) e does_so leads = passes files (Within n ss) (NodeEnd n.node.now.title) (Enters m) gives
   where
     gives : Gives files (Within n ss) (NodeEnd n.node.now.title) (Enters m)
-    gives zero = rw e refl
-    gives (suc k) = rw (e, leads) refl
-jump_turns files n ss head name rest (Within m ss1) e leads = absurd leads
-jump_turns files n ss head name rest Finishes e leads = absurd leads
-jump_turns files n ss head name rest (Fails f) e leads = passes files (Within n ss) (NodeEnd n.node.now.title) (Fails f) gives
+    gives zero = rw (e, does_so) refl
+    gives (suc k) = rw (e, does_so, leads) refl
+jump_turns files n ss s line name rest (Within m ss1) e does_so leads = absurd leads
+jump_turns files n ss s line name rest Finishes e does_so leads = absurd leads
+jump_turns files n ss s line name rest (Fails f) e does_so leads = passes files (Within n ss) (NodeEnd n.node.now.title) (Fails f) gives
   where
     gives : Gives files (Within n ss) (NodeEnd n.node.now.title) (Fails f)
-    gives zero = rw e refl
-    gives (suc k) = let nowhere = leads.0 in let fault = leads.1 in rw (e, nowhere, fault) refl
+    gives zero = rw (e, does_so) refl
+    gives (suc k) = let nowhere = leads.0 in let fault = leads.1 in rw (e, does_so, nowhere, fault) refl
 
 -- a run from a title is a walk from before its node
-pub first_found : (files titles : List File) (start : List ℕ) (n : NodeAt) (k : ℕ) → titles ≡ files → Some (placed n) ≡ find start titles →
+pub first_found : (files titles : List FileTree) (start : List ℕ) (n : NodeAt) (k : ℕ) → titles ≡ files → Some (placed n) ≡ find start titles →
     first_of files start k ≡ first_from titles (Enters n) k
 first_found files titles start n zero e is = refl
 first_found files titles start n (suc k) e is = let found : find start files ≡ Some (placed n) = ap (find start) (sym e) ∙ sym is in rw (found, e) refl

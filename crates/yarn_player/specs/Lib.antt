@@ -4,4 +4,5 @@ pub mod Stands
 pub mod Template
 pub mod Titles
 pub mod Transcript
+pub mod Unbuilt
 pub mod Walk

@@ -1,6 +1,6 @@
 -- Fewer events are the front of more.
 use Rattle.std.specs.Prelude.{◌≡◌, ℕ, ◌+◌, List, ◌++◌}
-use Rattle.yarn_tree.specs.declared.tree.File.{File}
+use Rattle.yarn_tree.specs.Trees.{FileTree}
 use Rattle.yarn_player.specs.Meaning.{Event, Outcome, first_of}
 
 -- the events of the one are the first of the other's
@@ -10,4 +10,4 @@ pub record IsPrefix (fewer more : Outcome) : Type 0 where
 
 -- the first k events are the front of the first k + 1
 abbrev pub Grows : Type 0
-Grows = (files : List File) (start : List ℕ) (k : ℕ) → IsPrefix (first_of files start k) (first_of files start (k + 1))
+Grows = (files : List FileTree) (start : List ℕ) (k : ℕ) → IsPrefix (first_of files start k) (first_of files start (k + 1))

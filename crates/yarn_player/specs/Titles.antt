@@ -1,15 +1,16 @@
 -- What the map from titles holds: the nodes of the files, as the meaning has them.
-use Rattle.std.specs.Prelude.{◌≡◌, ℕ, List, ◌++◌, option_map}
+use Rattle.std.specs.Prelude.{◌≡◌, ℕ, List, ◌++◌, map, option_map}
 use Rattle.std.specs.Borrow.{Bor}
 use Rattle.std.specs.BTreeMap.{BTreeMap, get_by}
 use Rattle.std.specs.Cmp.Lexicographic.{slice_cmp}
 use Rattle.std.specs.Ordering.{nat_cmp}
+use Rattle.yarn_tree.specs.Trees.{node_tree, file_tree}
 use Rattle.yarn_player.specs.Meaning.{Placed, nodes_from, first_titled}
 use Rattle.yarn_player.specs.declared.titles.NodeAt.{NodeAt}
 use Rattle.yarn_player.specs.declared.titles.Titles.{Titles}
 
 abbrev pub placed : NodeAt → Placed
-placed n = record { node = n.node.now; file = n.file }
+placed n = record { node = node_tree n.node.now; file = n.file }
 
 -- the map finds the first of these nodes by its title
 abbrev pub Finds : BTreeMap (Bor (List ℕ)) NodeAt → List Placed → Type 0
@@ -21,4 +22,4 @@ PutsBefore old new nodes = (later : List Placed) → Finds old later → Finds n
 
 -- the nodes of all files are found
 abbrev pub HasAll : Titles → Type 0
-HasAll titles = Finds titles.first (nodes_from 0 titles.files.now)
+HasAll titles = Finds titles.first (nodes_from 0 (map file_tree titles.files.now))

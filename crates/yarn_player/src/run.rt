@@ -1,4 +1,5 @@
-ghost use Rattle.std.specs.Prelude.{◌≡◌, ◌≤◌, None, OnOk, IfOk, IsErrOf};
+ghost use Rattle.std.specs.Prelude.{◌≡◌, ◌≤◌, map, None, OnOk, IfOk, IsErrOf};
+ghost use Rattle.yarn_tree.specs.Trees.{file_tree};
 ghost use Rattle.std.specs.Io.KnownBytes.{append_known};
 ghost use Rattle.yarn_base.specs.Causes.{Rose, HasCause};
 ghost use Rattle.yarn_base.specs.Outside.{WritesPart};
@@ -29,14 +30,14 @@ pub fn play<'p, O: Sink>(
     out: &mut O,
 ) -> Result<PlayEnd<'p>, PlayFault>
     requires { 1 ≤ limit }
-    ensures stand { IfOk result (λ end. stand_of end ≡ (first_of files.now start.now limit).stand) }
+    ensures stand { IfOk result (λ end. stand_of end ≡ (first_of (map file_tree files.now) start.now limit).stand) }
     ensures written { OnOk result (O.written out.new
-        ≡ append_known (O.written out.old) (transcript (first_of files.now start.now limit).events)) }
+        ≡ append_known (O.written out.old) (transcript (first_of (map file_tree files.now) start.now limit).events)) }
     ensures part { WritesPart (O.written out.old) (O.written out.new)
-        (transcript (first_of files.now start.now limit).events) }
-    ensures unknown { IsErrOf result PlayFault.UnknownStart → find start.now files.now ≡ None }
-    ensures known { OnOk result (find start.now files.now ≡ None → ⊥) }
-    ensures failed_known { IsErrOf result PlayFault.Failed → find start.now files.now ≡ None → ⊥ }
+        (transcript (first_of (map file_tree files.now) start.now limit).events) }
+    ensures unknown { IsErrOf result PlayFault.UnknownStart → find start.now (map file_tree files.now) ≡ None }
+    ensures known { OnOk result (find start.now (map file_tree files.now) ≡ None → ⊥) }
+    ensures failed_known { IsErrOf result PlayFault.Failed → find start.now (map file_tree files.now) ≡ None → ⊥ }
     ensures failed { IsErrOf result PlayFault.Failed → Rose (O.faults out.old) (O.faults out.new) }
     ensures nothing { IsErrOf result PlayFault.UnknownStart → O.written out.new ≡ O.written out.old }
     ensures count { O.faults out.old ≤ O.faults out.new }
@@ -63,11 +64,11 @@ fn show<'p, O: Sink>(
     out: &mut O,
 ) -> Result<PlayEnd<'p>, IoFault>
     requires { HasAll walk.titles }
-    ensures stand { IfOk result (λ end. stand_of end ≡ stand_from walk.entry.titles.files.now walk.entry.place limit) }
+    ensures stand { IfOk result (λ end. stand_of end ≡ stand_from (map file_tree walk.entry.titles.files.now) walk.entry.place limit) }
     ensures written { OnOk result (O.written out.new
-        ≡ append_known (O.written out.old) (text_from walk.entry.titles.files.now walk.entry.place limit)) }
+        ≡ append_known (O.written out.old) (text_from (map file_tree walk.entry.titles.files.now) walk.entry.place limit)) }
     ensures part { WritesPart (O.written out.old) (O.written out.new)
-        (text_from walk.entry.titles.files.now walk.entry.place limit) }
+        (text_from (map file_tree walk.entry.titles.files.now) walk.entry.place limit) }
     ensures cause { HasCause (O.faults out.old) (O.faults out.new) result }
 {
     let mut page = Page::new(alloc);

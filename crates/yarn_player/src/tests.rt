@@ -1,8 +1,8 @@
-use crate::{PlayEnd, PlayFault, play};
+use crate::{PlayEnd, PlayFault, first_unbuilt, play};
 use std::alloc::{AllocError, Global};
 use std::process::Abort;
 use std::test::Fail;
-use yarn_base::{List, Memory, MemorySink, Text};
+use yarn_base::{List, Memory, MemorySink, Place, Text};
 use yarn_tree::{File, Head, LineText, Node, Stmt};
 
 /// A node's title and its statements; `>Name` is a jump. The title `/` stands for the end of a file.
@@ -199,5 +199,24 @@ fn lines_are_handed_over_by_the_page(rt: HostRuntime) -> Result<(), Fail> {
         );
         assert_eq!(rt; out.written().len(), bytes, "where write {failing} fails");
     }
+    Ok(())
+}
+
+#[test]
+fn what_is_not_played_is_found(rt: HostRuntime) -> Result<(), Fail> {
+    let alloc = rt.alloc();
+    let mut body = List::new(alloc);
+    body.push(statement(alloc, 3, "Hi")?).map_err(|_| Memory)?;
+    body.push(statement(alloc, 4, ">A")?).map_err(|_| Memory)?;
+    body.push(Stmt::Stop(Head {
+        line: 5,
+        tags: List::new(alloc),
+    }))
+    .map_err(|_| Memory)?;
+    let mut nodes = List::new(alloc);
+    nodes.push(titled(alloc, "A", body)?).map_err(|_| Memory)?;
+    let files = [file_of(alloc, List::new(alloc))?, file_of(alloc, nodes)?];
+    assert_eq!(rt; first_unbuilt(&files), Ok(Some(Place { file: 1, line: 5 })));
+    assert_eq!(rt; first_unbuilt(&files[..1]), Ok(None));
     Ok(())
 }

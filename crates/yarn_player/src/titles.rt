@@ -1,4 +1,5 @@
-ghost use Rattle.std.specs.Prelude.{◌≡◌, IfOk, OnOk, option_map};
+ghost use Rattle.std.specs.Prelude.{◌≡◌, map, IfOk, OnOk, option_map};
+ghost use Rattle.yarn_tree.specs.Trees.{node_tree, file_tree};
 ghost use Rattle.yarn_player.specs.Meaning.{find, nodes_at};
 ghost use Rattle.yarn_player.specs.Titles.{placed, PutsBefore, HasAll};
 
@@ -38,7 +39,7 @@ impl<'p> Titles<'p> {
     /// The first node of that title.
     pub fn find(&self, title: &Text) -> Option<NodeAt<'p>>
         requires { HasAll self.now }
-        ensures { option_map placed result ≡ find title.now self.now.files.now }
+        ensures { option_map placed result ≡ find title.now (map file_tree self.now.files.now) }
     {
         self.first.get(title.as_str()).copied()
     }
@@ -50,7 +51,7 @@ fn add_nodes<'p>(
     place: usize,
     nodes: &'p [Node],
 ) -> Result<(), Memory>
-    ensures { OnOk result (PutsBefore first.old first.new (nodes_at place nodes.now)) }
+    ensures { OnOk result (PutsBefore first.old first.new (nodes_at place (map node_tree nodes.now))) }
 {
     let file = u32::try_from(place).map_err(|_| Memory)?;
     for node in nodes.iter().rev() {

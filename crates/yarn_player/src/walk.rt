@@ -1,11 +1,14 @@
-ghost use Rattle.std.specs.Prelude.{◌≡◌};
+ghost use Rattle.std.specs.Prelude.{◌≡◌, map};
+ghost use Rattle.yarn_tree.specs.Trees.{file_tree};
 ghost use Rattle.yarn_player.specs.Titles.{placed, HasAll};
-ghost use Rattle.yarn_player.specs.Walk.{Turns, Leads};
+ghost use Rattle.yarn_blocks.specs.View.{stmt_of};
+ghost use Rattle.yarn_player.specs.Meaning.{does};
+ghost use Rattle.yarn_player.specs.Walk.{Turns, Leads, done_of};
 
 use crate::ends::{FaultAt, PlayEnd};
 use crate::titles::{NodeAt, Titles};
 use yarn_base::Text;
-use yarn_tree::Stmt;
+use yarn_tree::{LineText, Stmt};
 
 /// Where a walk through the nodes stands.
 #[derive(Clone, Copy)]
@@ -30,6 +33,15 @@ pub enum Turn<'p> {
     Ends(PlayEnd<'p>),
 }
 
+/// What a statement does.
+enum Deed<'p> {
+    Line(&'p LineText),
+    /// A jump on that line to that title.
+    Jump(u32, &'p Text),
+    /// The end of its node.
+    Stop,
+}
+
 /// A walk through the nodes of a project.
 #[derive(Drop)]
 pub struct Walk<'p> {
@@ -41,7 +53,7 @@ impl<'p> Walk<'p> {
     /// Gives exactly one event, or where the run stands.
     pub fn next(&mut self) -> Turn<'p>
         requires { HasAll self.old.titles }
-        ensures turn { Turns self.old.titles.files.now self.old.place result self.new.place }
+        ensures turn { Turns (map file_tree self.old.titles.files.now) self.old.place result self.new.place }
         ensures titles { self.new.titles ≡ self.old.titles }
     {
         match self.place {
@@ -55,32 +67,41 @@ impl<'p> Walk<'p> {
         }
     }
 
-    // The first of these statements, or the end of the node.
+    // The first of these statements, or the end of the node. What isn't played yet ends it.
     fn statement(&mut self, node: NodeAt<'p>, statements: &'p [Stmt]) -> Turn<'p>
         requires { HasAll self.old.titles }
-        ensures turn { Turns self.old.titles.files.now (Place.Within node.entry statements.entry) result self.new.place }
+        ensures turn { Turns (map file_tree self.old.titles.files.now) (Place.Within node.entry statements.entry) result self.new.place }
         ensures titles { self.new.titles ≡ self.old.titles }
     {
-        match statements.split_first() {
-            None => {
-                self.place = Place::Finishes;
-                Turn::Quiet
-            }
-            Some((Stmt::Line(line), rest)) => {
+        let Some((first, rest)) = statements.split_first() else {
+            return self.end_node();
+        };
+        match deed_of(first) {
+            Deed::Line(line) => {
                 self.place = Place::Within(node, rest);
                 Turn::Says(&line.text)
             }
-            Some((Stmt::Jump(head, name), _)) => {
-                self.place = self.behind_jump(node, head.line, name);
+            Deed::Jump(line, name) => {
+                self.place = self.behind_jump(node, line, name);
                 Turn::Quiet
             }
+            Deed::Stop => self.end_node(),
         }
+    }
+
+    fn end_node(&mut self) -> Turn<'p>
+        ensures turn { result ≡ Turn.Quiet }
+        ensures place { self.new.place ≡ Place.Finishes }
+        ensures titles { self.new.titles ≡ self.old.titles }
+    {
+        self.place = Place::Finishes;
+        Turn::Quiet
     }
 
     // Where the walk stands after the node was left by a jump.
     fn behind_jump(&self, node: NodeAt<'p>, line: u32, name: &'p Text) -> Place<'p>
         requires { HasAll self.now.titles }
-        ensures { Leads self.now.titles.files.now (placed node.entry) line name.now result }
+        ensures { Leads (map file_tree self.now.titles.files.now) (placed node.entry) line name.now result }
     {
         match self.titles.find(name) {
             Some(next) => Place::Enters(next),
@@ -91,5 +112,18 @@ impl<'p> Walk<'p> {
                 name,
             }),
         }
+    }
+}
+
+// What the statement does. What isn't played yet ends its node.
+fn deed_of(statement: &Stmt) -> Deed<'_>
+    ensures { does (stmt_of statement.now) ≡ done_of result }
+{
+    match statement {
+        Stmt::Line(line) => Deed::Line(line),
+        Stmt::Jump(head, name) => Deed::Jump(head.line, name),
+        Stmt::Options(_) | Stmt::If(..) => Deed::Stop,
+        Stmt::Set(..) | Stmt::Declare(..) | Stmt::JumpTo(..) => Deed::Stop,
+        Stmt::Stop(_) | Stmt::Call(..) | Stmt::Command(_) => Deed::Stop,
     }
 }

@@ -1,283 +1,305 @@
 -- The laws that tie the reading to what files stand for.
-use Rattle.std.proofs.Common.{◌≡◌, ◌↔◌, ◌≤◌, ℕ, List, [], ◌∷◌, ◌++◌, length, map, true, false, Option, Some, None, All, refl, sym, ap, ◌∙◌, subst, append-nil}
-use Rattle.yarn_base.specs.declared.Place.{Place}
+use Rattle.std.proofs.Common.{◌≡◌, ◌↔◌, List, [], ◌∷◌, ◌++◌, Bool, true, false, All, refl, sym, ap, ◌∙◌, subst}
+use Rattle.std.proofs.lemmas.List.Elements.{All-nil, All-cons, All-head, All-tail}
 use Rattle.yarn_base.specs.declared.SourceFile.{SourceFile}
-use Rattle.yarn_tree.specs.declared.refusal.RefusalKind.{RefusalKind}
-use Rattle.yarn_tree.specs.declared.refusal.RefusalKind.TheVariants.{TooMuch, BadUtf8, LineTooLong, NotBuilt, BadLine, BadStructure, TooMany, BadTitle, DuplicateTitle, UnknownNode, DuplicateLineId}
-use Rattle.yarn_tree.specs.declared.stages.FileRead.{FileRead}
-use Rattle.yarn_tree.specs.declared.stages.Note.TheVariants.{Bad, Misplaced, Mistitled}
+use Rattle.yarn_value.specs.declared.signature.Signature.{Signature}
+use Rattle.yarn_blocks.specs.View.{stmts_of}
+use Rattle.yarn_blocks.proofs.Injective.{one_tree}
+use Rattle.yarn_blocks.proofs.Viable.{one_block}
+use Rattle.yarn_nodes.specs.declared.node.FileLines.{FileLines}
+use Rattle.yarn_nodes.specs.declared.node.NodeLines.{NodeLines}
+use Rattle.yarn_nodes.specs.declared.node.Note.TheVariants as note
+use Rattle.yarn_nodes.specs.Ids.{HasIds, HasNoIds}
+use Rattle.yarn_nodes.specs.Laws.{naming, lines_read, AreBlocks, IsBlockBody, HasNoLine, HasManyHoles, HasFraction, HasLarge}
+use Rattle.yarn_tree.specs.declared.refusal.RefusalKind.TheVariants as kind
 use Rattle.yarn_tree.specs.declared.tree.File.{File}
 use Rattle.yarn_tree.specs.declared.tree.Node.{Node}
 use Rattle.yarn_tree.specs.declared.tree.Project.{Project}
-use Rattle.yarn_tree.specs.Body.{HasIds, HasNoIds}
-use Rattle.yarn_tree.specs.Checks.{noted_in, extra_node, titles_of, titles_seen, unknown_in, ids_of, ids_seen}
-use Rattle.yarn_items.specs.Laws.{ItemsAreFound}
-use Rattle.yarn_tree.specs.Laws.{AreNotTooMuch, AreAccepted, nodes_of, titles, jumps_of, IsAmong, AreDistinct}
-use Rattle.yarn_tree.specs.Places.{at_file, first_place, first_line}
-use Rattle.yarn_tree.specs.Project.{StandsFor, AllStandFor, ProjectOf}
-use Rattle.yarn_tree.specs.Reader.{unbuilt_in, file_of}
-use Rattle.yarn_tree.specs.Reading.{Reading, Reads, Refuses, unless, tree_of, project_of, reading_of, file_reading_of}
-use Rattle.yarn_tree.specs.Size.{too_much, big_alone}
-use Rattle.yarn_tree.specs.Splits.{bad_in, long_in, split_of, splits_from}
-use Rattle.yarn_tree.proofs.CountLemmas.{extra-few, few-extra}
-use Rattle.yarn_tree.proofs.KnownLemmas.{titles-all, ids-all, reads-known, known-reads}
-use Rattle.yarn_tree.proofs.LinesLemmas.{IsClear, tree_in, clear-stands, stands-clear, stands-tree}
-use Rattle.yarn_tree.proofs.RefusalLemmas.{Places}
-use Rattle.yarn_tree.proofs.SightLemmas.{no_sight-distinct, distinct-no_sight, no_sight-knows}
-use Rattle.yarn_tree.proofs.SizeLemmas.{not_too_much, none_too_much, alone_small, small-alone}
-use Rattle.yarn_tree.proofs.SourceLemmas.{or-none, none-or, at-none, none-at, reads_from, clear-all, all-clear, all-stand, stand-clear, stand-trees}
-use Rattle.yarn_tree.proofs.WellLemmas.{all-well, well-all}
+use Rattle.yarn_tree.specs.Checks.{first_excess, ids_seen}
+use Rattle.yarn_tree.specs.Laws.{HasFineLines, IsAccepted, IsAcceptedAlone, AreLined, AreShallow, AreFewEnough, AreWhole, AreKept, AreTitled, AreTitledApart, AreUnreserved, AreDeclaredOnce, HaveNodes, HaveArguments}
+use Rattle.yarn_tree.specs.Places.{at_file}
+use Rattle.yarn_tree.specs.Project.{IsNodeOf, AreNodesOf, IsFileOf, AreFilesOf, StandsFor, ProjectOf}
+use Rattle.yarn_tree.specs.Reading.{Reads, reading_of, file_reading_of}
+use Rattle.yarn_tree.specs.Size.{big_alone}
+use Rattle.yarn_tree.specs.Splits.{bad_in, long_in}
+use Rattle.yarn_tree.proofs.FirstLemmas.{Pairs, at-none, none-at}
+use Rattle.yarn_tree.proofs.LimitLemmas.{noted_of, deep-tells, excess-tells, fractions-tell, large-tell}
+use Rattle.yarn_tree.proofs.NodeLaws.{NodeLaws}
+use Rattle.yarn_tree.proofs.ReadableLemmas.{CanBeRead, readable-found, readable-told}
+use Rattle.yarn_tree.proofs.RefusalLemmas.{Chain, chained, NonePlaced, none-more, more-none, all-none, none-all}
+use Rattle.yarn_tree.proofs.SizeLemmas.{alone_small, small-alone}
+use Rattle.yarn_tree.proofs.SourceLemmas.{reads_from, NothingBad, NothingMisplaced, Stands, sources-stand, stand-sources, have-stand, stands-source}
+use Rattle.yarn_tree.proofs.StageLemmas.{to_id, lines_of_files, noted-none, arguments-none, none-arguments, lined-same, ids-again}
 
-pub unless-none : {A : Type 0} (kind : RefusalKind) (o : Option Place) (next : Reading A) → o ≡ None → unless kind o next ≡ next
-unless-none kind o next is = ap (λ (p : Option Place). unless kind p next) is
+-- all refusals of a project
+abbrev all_places : List Signature → List SourceFile → Chain
+all_places signatures sources = to_id sources signatures ++ (kind.DuplicateLineId, (ids_seen (reads_from true 0 sources)).again) ∷ []
 
-pub unless-some : {A : Type 0} (kind : RefusalKind) (o : Option Place) (next : Reading A) (place : Place) → o ≡ Some place → unless kind o next ≡ Refuses kind place
-unless-some kind o next place is = ap (λ (p : Option Place). unless kind p next) is
-
-unless-reads : {A : Type 0} (kind : RefusalKind) (o : Option Place) (next : Reading A) (x : A) → unless kind o next ≡ Reads x → (o ≡ None) × (next ≡ Reads x)
-unless-reads kind None next x is = (refl, is)
-unless-reads kind (Some place) next x is = absurd cc
-
--- the refusals of a project, one after the other
-abbrev names_on : {A : Type 0} → Places → Reading A → Reading A
-names_on p next = unless BadTitle p.mistitled (unless DuplicateTitle p.again (unless UnknownNode p.unknown (unless DuplicateLineId p.twice next)))
-
-abbrev trees_on : {A : Type 0} → Places → Reading A → Reading A
-trees_on p next = unless BadLine p.nothing (unless BadStructure p.misplaced (unless TooMany p.extra next))
-
-abbrev lines_on : {A : Type 0} → Places → Reading A → Reading A
-lines_on p next = unless TooMuch p.much (unless BadUtf8 p.bad (unless LineTooLong p.long (unless NotBuilt p.unbuilt next)))
-
-abbrev all_on : {A : Type 0} → Places → Reading A → Reading A
-all_on p next = lines_on p (trees_on p (names_on p next))
-
-record NonePlaced (p : Places) : Type 0 where
-  pub much : p.much ≡ None
-  pub bad : p.bad ≡ None
-  pub long : p.long ≡ None
-  pub unbuilt : p.unbuilt ≡ None
-  pub nothing : p.nothing ≡ None
-  pub misplaced : p.misplaced ≡ None
-  pub extra : p.extra ≡ None
-  pub mistitled : p.mistitled ≡ None
-  pub again : p.again ≡ None
-  pub unknown : p.unknown ≡ None
-  pub twice : p.twice ≡ None
-
-all-reads : {A : Type 0} (p : Places) (next : Reading A) (x : A) → all_on p next ≡ Reads x → NonePlaced p × (next ≡ Reads x)
-all-reads p next x is =
-    let names = names_on p next in
-    let trees = trees_on p names in
-    let a = unless-reads TooMuch p.much (unless BadUtf8 p.bad (unless LineTooLong p.long (unless NotBuilt p.unbuilt trees))) x is in
-    let b = unless-reads BadUtf8 p.bad (unless LineTooLong p.long (unless NotBuilt p.unbuilt trees)) x a.1 in
-    let c = unless-reads LineTooLong p.long (unless NotBuilt p.unbuilt trees) x b.1 in
-    let d = unless-reads NotBuilt p.unbuilt trees x c.1 in
-    let e = unless-reads BadLine p.nothing (unless BadStructure p.misplaced (unless TooMany p.extra names)) x d.1 in
-    let f = unless-reads BadStructure p.misplaced (unless TooMany p.extra names) x e.1 in
-    let g = unless-reads TooMany p.extra names x f.1 in
-    let h = unless-reads BadTitle p.mistitled (unless DuplicateTitle p.again (unless UnknownNode p.unknown (unless DuplicateLineId p.twice next))) x g.1 in
-    let i = unless-reads DuplicateTitle p.again (unless UnknownNode p.unknown (unless DuplicateLineId p.twice next)) x h.1 in
-    let j = unless-reads UnknownNode p.unknown (unless DuplicateLineId p.twice next) x i.1 in
-    let k = unless-reads DuplicateLineId p.twice next x j.1 in (
-      record {
-        much = a.0;
-        bad = b.0;
-        long = c.0;
-        unbuilt = d.0;
-        nothing = e.0;
-        misplaced = f.0;
-        extra = g.0;
-        mistitled = h.0;
-        again = i.0;
-        unknown = j.0;
-        twice = k.0;
-      },
-      k.1,
-    )
-
-names-none : {A : Type 0} (p : Places) (next : Reading A) → NonePlaced p → names_on p next ≡ next
-names-none p next is =
-    unless-none BadTitle p.mistitled (unless DuplicateTitle p.again (unless UnknownNode p.unknown (unless DuplicateLineId p.twice next))) is.mistitled
-    ∙ unless-none DuplicateTitle p.again (unless UnknownNode p.unknown (unless DuplicateLineId p.twice next)) is.again
-    ∙ unless-none UnknownNode p.unknown (unless DuplicateLineId p.twice next) is.unknown
-    ∙ unless-none DuplicateLineId p.twice next is.twice
-
-trees-none : {A : Type 0} (p : Places) (next : Reading A) → p.nothing ≡ None → p.misplaced ≡ None → p.extra ≡ None → trees_on p next ≡ next
-trees-none p next a b c =
-    unless-none BadLine p.nothing (unless BadStructure p.misplaced (unless TooMany p.extra next)) a
-    ∙ unless-none BadStructure p.misplaced (unless TooMany p.extra next) b
-    ∙ unless-none TooMany p.extra next c
-
-lines-none : {A : Type 0} (p : Places) (next : Reading A) → p.much ≡ None → p.bad ≡ None → p.long ≡ None → p.unbuilt ≡ None → lines_on p next ≡ next
-lines-none p next a b c d =
-    unless-none TooMuch p.much (unless BadUtf8 p.bad (unless LineTooLong p.long (unless NotBuilt p.unbuilt next))) a
-    ∙ unless-none BadUtf8 p.bad (unless LineTooLong p.long (unless NotBuilt p.unbuilt next)) b
-    ∙ unless-none LineTooLong p.long (unless NotBuilt p.unbuilt next) c
-    ∙ unless-none NotBuilt p.unbuilt next d
-
--- the places of a list of files
-abbrev pub reads_in : List SourceFile → List FileRead
-reads_in sources = reads_from 0 sources
-
-abbrev pub places_in : List SourceFile → Places
-places_in sources = record {
-  much = too_much 0 0 sources;
-  bad = first_line bad_in 0 sources;
-  long = first_line long_in 0 sources;
-  unbuilt = first_place unbuilt_in (splits_from 0 sources);
-  nothing = first_place (noted_in Bad) (reads_in sources);
-  misplaced = first_place (noted_in Misplaced) (reads_in sources);
-  extra = extra_node 65536 (reads_in sources);
-  mistitled = first_place (noted_in Mistitled) (reads_in sources);
-  again = (titles_seen (reads_in sources)).again;
-  unknown = first_place (unknown_in (titles_seen (reads_in sources)).names) (reads_in sources);
-  twice = (ids_seen (reads_in sources)).again;
-}
-
-the-reading : (sources : List SourceFile) → reading_of sources ≡ all_on (places_in sources) (Reads (project_of (reads_in sources)))
+pub the-reading : (signatures : List Signature) (sources : List SourceFile) →
+    reading_of signatures sources ≡ chained (all_places signatures sources) (lines_of_files sources)
 unfolding reading_of
-the-reading sources = refl
+the-reading signatures sources = refl
 
-abbrev pub trees_in : List SourceFile → List File
-trees_in sources = map tree_of (reads_in sources)
+fine-lines : (sources : List SourceFile) → All (HasNoLine HasManyHoles) sources → All (HasNoLine HasFraction) sources → All (HasNoLine HasLarge) sources → All HasFineLines sources
+fine-lines [] holes fractions large = All-nil HasFineLines
+fine-lines (source ∷ sources) holes fractions large =
+    All-cons HasFineLines source sources
+    (record {
+      holes = All-head (HasNoLine HasManyHoles) source sources holes;
+      fractions = All-head (HasNoLine HasFraction) source sources fractions;
+      large = All-head (HasNoLine HasLarge) source sources large;
+    })
+    (fine-lines sources (All-tail (HasNoLine HasManyHoles) source sources holes) (All-tail (HasNoLine HasFraction) source sources fractions)
+    (All-tail (HasNoLine HasLarge) source sources large))
 
-pub names-known : (sources : List SourceFile) → first_place (unknown_in (titles_seen (reads_in sources)).names) (reads_in sources) ≡ None →
-    All (IsAmong (titles (nodes_of (trees_in sources)))) (jumps_of (nodes_of (trees_in sources)))
-names-known sources none =
-    subst (λ (l : List (List ℕ)). All (IsAmong l) (jumps_of (nodes_of (trees_in sources)))) (titles-all 0 sources)
-    (reads-known (titles_seen (reads_in sources)).names _ (no_sight-knows (titles_of (reads_in sources))) (reads_in sources) none)
+record LinesFine (sources : List SourceFile) : Type 0 where
+  pub holes : All (HasNoLine HasManyHoles) sources
+  pub fractions : All (HasNoLine HasFraction) sources
+  pub large : All (HasNoLine HasLarge) sources
 
-pub known-names : (sources : List SourceFile) → All (IsAmong (titles (nodes_of (trees_in sources)))) (jumps_of (nodes_of (trees_in sources))) →
-    first_place (unknown_in (titles_seen (reads_in sources)).names) (reads_in sources) ≡ None
-known-names sources all =
-    known-reads (titles_seen (reads_in sources)).names _ (no_sight-knows (titles_of (reads_in sources))) (reads_in sources)
-    (subst (λ (l : List (List ℕ)). All (IsAmong l) (jumps_of (nodes_of (trees_in sources)))) (sym (titles-all 0 sources)) all)
+lines-fine : (sources : List SourceFile) → All HasFineLines sources → LinesFine sources
+lines-fine [] all = record { holes = All-nil (HasNoLine HasManyHoles); fractions = All-nil (HasNoLine HasFraction); large = All-nil (HasNoLine HasLarge) }
+lines-fine (source ∷ sources) all =
+    let here = All-head HasFineLines source sources all in
+    let rest = lines-fine sources (All-tail HasFineLines source sources all) in
+    record {
+      holes = All-cons (HasNoLine HasManyHoles) source sources here.holes rest.holes;
+      fractions = All-cons (HasNoLine HasFraction) source sources here.fractions rest.fractions;
+      large = All-cons (HasNoLine HasLarge) source sources here.large rest.large;
+    }
 
--- the places of one file
-abbrev read_in : SourceFile → FileRead
-read_in source = file_of false (split_of 0 source)
+-- the files of one project
 
-abbrev places_alone : SourceFile → Places
-places_alone source = record {
-  much = big_alone source;
-  bad = at_file 0 (bad_in source);
-  long = at_file 0 (long_in source);
-  unbuilt = unbuilt_in (split_of 0 source);
-  nothing = first_place (noted_in Bad) (read_in source ∷ []);
-  misplaced = first_place (noted_in Misplaced) (read_in source ∷ []);
-  extra = extra_node 65536 (read_in source ∷ []);
-  mistitled = None;
-  again = None;
-  unknown = None;
-  twice = None;
-}
+node-block : (lines : NodeLines) (node : Node) → IsNodeOf lines node → IsBlockBody lines
+node-block lines node is = (stmts_of node.body, is.body)
 
-the-file_reading : (source : SourceFile) → file_reading_of source ≡ all_on (places_alone source) (Reads (tree_in false source))
-unfolding file_reading_of
-the-file_reading source = refl
+nodes-blocks : (lines : List NodeLines) (nodes : List Node) → AreNodesOf lines nodes → All IsBlockBody lines
+nodes-blocks [] [] are = All-nil IsBlockBody
+nodes-blocks [] (node ∷ nodes) are = absurd are
+nodes-blocks (l ∷ lines) [] are = absurd are
+nodes-blocks (l ∷ lines) (node ∷ nodes) are = All-cons IsBlockBody l lines (node-block l node are.0) (nodes-blocks lines nodes are.1)
 
-module _ (items_found : ItemsAreFound) where
-  read-stands : (sources : List SourceFile) (project : Project) → reading_of sources ≡ Reads project →
-      AreNotTooMuch sources × ProjectOf sources project × AreAccepted (nodes_of project.files)
-  read-stands sources project reads =
-      let all = all-reads (places_in sources) (Reads (project_of (reads_in sources))) project (sym (the-reading sources) ∙ reads) in
-      let same : project_of (reads_in sources) ≡ project = let e = all.1 in cc in
-      let files : trees_in sources ≡ project.files = ap (λ (p : Project). p.files) same in
-      let none = all.0 in
-      let clear = clear-all 0 sources (record { good = none.bad; short = none.long; built = none.unbuilt; fine = none.nothing; placed = none.misplaced }) in
-      let accepted : AreAccepted (nodes_of (trees_in sources)) =
+files-blocks : (lines : List FileLines) (files : List File) → AreFilesOf lines files → All AreBlocks lines
+files-blocks [] [] are = All-nil AreBlocks
+files-blocks [] (file ∷ files) are = absurd are
+files-blocks (l ∷ lines) [] are = absurd are
+files-blocks (l ∷ lines) (file ∷ files) are = All-cons AreBlocks l lines (nodes-blocks l.nodes file.nodes are.0.nodes) (files-blocks lines files are.1)
+
+one_node : (lines : NodeLines) (a b : Node) → IsNodeOf lines a → IsNodeOf lines b → a ≡ b
+one_node lines a b x y =
+    let title : a.title ≡ b.title = x.title ∙ sym y.title in
+    let headers : a.headers ≡ b.headers = x.headers ∙ sym y.headers in
+    let line : a.line ≡ b.line = x.line ∙ sym y.line in
+    let end_line : a.end_line ≡ b.end_line = x.end_line ∙ sym y.end_line in
+    let body : a.body ≡ b.body = one_tree a.body b.body (one_block x.body y.body) in
+    ap (λ v. record { title = v; headers = a.headers; line = a.line; end_line = a.end_line; body = a.body }) title
+    ∙ ap (λ v. record { title = b.title; headers = v; line = a.line; end_line = a.end_line; body = a.body }) headers
+    ∙ ap (λ v. record { title = b.title; headers = b.headers; line = v; end_line = a.end_line; body = a.body }) line
+    ∙ ap (λ v. record { title = b.title; headers = b.headers; line = b.line; end_line = v; body = a.body }) end_line
+    ∙ ap (λ v. record { title = b.title; headers = b.headers; line = b.line; end_line = b.end_line; body = v }) body
+
+one_nodes : (lines : List NodeLines) (a b : List Node) → AreNodesOf lines a → AreNodesOf lines b → a ≡ b
+one_nodes [] [] [] x y = refl
+one_nodes [] [] (n ∷ b) x y = absurd y
+one_nodes [] (m ∷ a) b x y = absurd x
+one_nodes (l ∷ lines) [] b x y = absurd x
+one_nodes (l ∷ lines) (m ∷ a) [] x y = absurd y
+one_nodes (l ∷ lines) (m ∷ a) (n ∷ b) x y = ap (λ (k : Node). k ∷ a) (one_node l m n x.0 y.0) ∙ ap (λ (k : List Node). n ∷ k) (one_nodes lines a b x.1 y.1)
+
+file-same : (lines : FileLines) (a b : File) → IsFileOf lines a → IsFileOf lines b → a ≡ b
+file-same lines a b x y =
+    ap (λ v. record { name = v; tags = a.tags; nodes = a.nodes }) (x.name ∙ sym y.name)
+    ∙ ap (λ v. record { name = b.name; tags = v; nodes = a.nodes }) (x.tags ∙ sym y.tags)
+    ∙ ap (λ v. record { name = b.name; tags = b.tags; nodes = v }) (one_nodes lines.nodes a.nodes b.nodes x.nodes y.nodes)
+
+files-same : (lines : List FileLines) (a b : List File) → AreFilesOf lines a → AreFilesOf lines b → a ≡ b
+files-same [] [] [] x y = refl
+files-same [] [] (n ∷ b) x y = absurd y
+files-same [] (m ∷ a) b x y = absurd x
+files-same (l ∷ lines) [] b x y = absurd x
+files-same (l ∷ lines) (m ∷ a) [] x y = absurd y
+files-same (l ∷ lines) (m ∷ a) (n ∷ b) x y = ap (λ (k : File). k ∷ a) (file-same l m n x.0 y.0) ∙ ap (λ (k : List File). n ∷ k) (files-same lines a b x.1 y.1)
+
+module _ (laws : NodeLaws) where
+  -- a project
+
+  all-accepted : (signatures : List Signature) (sources : List SourceFile) → NonePlaced (all_places signatures sources) →
+      IsAccepted signatures sources (lines_of_files sources)
+  all-accepted signatures sources none =
+      let both = more-none (to_id sources signatures) kind.DuplicateLineId (ids_seen (reads_from true 0 sources)).again none in
+      let calls = arguments-none laws sources signatures both.0 in
+      let declared = calls.have.have.declared in
+      let apart = declared.unreserved.titled in
+      let kept = apart.are.kept in
+      let few = kept.whole.few in
+      let lined = few.shallow.lined in
       record {
-        few = extra-few 65536 (reads_in sources) none.extra;
-        titled = all-well items_found 0 sources clear none.mistitled;
-        titles_differ = subst AreDistinct (titles-all 0 sources) (no_sight-distinct (titles_of (reads_in sources)) none.again);
-        known = names-known sources none.unknown;
-        ids_differ = subst AreDistinct (ids-all (reads_in sources)) (no_sight-distinct (ids_of (reads_in sources)) none.twice);
-      } in (
-        not_too_much sources none.much,
-        subst (AllStandFor sources) files (all-stand items_found 0 sources clear),
-        subst (λ (l : List File). AreAccepted (nodes_of l)) files accepted,
-      )
+        light = lined.light;
+        have = lined.have;
+        fine = fine-lines sources few.holes kept.whole.fractions kept.large;
+        limits = record { blocks = lined.blocks; shallow = few.shallow.shallow; small = few.small; few_nodes = few.few_nodes; few_variables = few.few_variables };
+        named = record {
+          titled = apart.are.titled;
+          titles_differ = apart.titles_differ;
+          unreserved = declared.unreserved.unreserved;
+          declared_once = declared.declared_once;
+          known = calls.have.have.known;
+          functions = calls.have.functions;
+          arguments = calls.arguments;
+          ids_differ = (ids-again laws sources).0 both.1;
+        };
+      }
 
-  stands-read : (sources : List SourceFile) (project : Project) → AreNotTooMuch sources → ProjectOf sources project → AreAccepted (nodes_of project.files) →
-      reading_of sources ≡ Reads project
-  stands-read sources project fine stand accepted =
-      let clear = stand-clear items_found sources project.files stand in
-      let refused = all-clear 0 sources clear in
-      let files : trees_in sources ≡ project.files = stand-trees items_found 0 sources project.files stand in
-      let ok : AreAccepted (nodes_of (trees_in sources)) = subst (λ (l : List File). AreAccepted (nodes_of l)) (sym files) accepted in
-      let none : NonePlaced (places_in sources) =
-      record {
-        much = none_too_much sources fine;
-        bad = refused.good;
-        long = refused.short;
-        unbuilt = refused.built;
-        nothing = refused.fine;
-        misplaced = refused.placed;
-        extra = few-extra 65536 (reads_in sources) ok.few;
-        mistitled = well-all items_found 0 sources clear ok.titled;
-        again = distinct-no_sight (titles_of (reads_in sources)) (subst AreDistinct (sym (titles-all 0 sources)) ok.titles_differ);
-        unknown = known-names sources ok.known;
-        twice = distinct-no_sight (ids_of (reads_in sources)) (subst AreDistinct (sym (ids-all (reads_in sources))) ok.ids_differ);
-      } in
-      let p = places_in sources in
-      let last = Reads (project_of (reads_in sources)) in
-      the-reading sources
-      ∙ lines-none p (trees_on p (names_on p last)) none.much none.bad none.long none.unbuilt
-      ∙ trees-none p (names_on p last) none.nothing none.misplaced none.extra
-      ∙ names-none p last none
-      ∙ ap (λ (l : List File). Reads (record { files = l })) files
+  accepted-calls : (signatures : List Signature) (sources : List SourceFile) (files : List FileLines) → IsAccepted signatures sources files → HaveArguments signatures sources files
+  accepted-calls signatures sources files is =
+      let limits = is.limits in
+      let named = is.named in
+      let fine = lines-fine sources is.fine in
+      let lined : AreLined sources files = record { light = is.light; have = is.have; blocks = limits.blocks } in
+      let shallow : AreShallow sources files = record { lined = lined; shallow = limits.shallow } in
+      let few : AreFewEnough sources files =
+      record { shallow = shallow; holes = fine.holes; small = limits.small; few_nodes = limits.few_nodes; few_variables = limits.few_variables } in
+      let whole : AreWhole sources files = record { few = few; fractions = fine.fractions } in
+      let kept : AreKept sources files = record { whole = whole; large = fine.large } in
+      let titled : AreTitled sources files = record { kept = kept; titled = named.titled } in
+      let apart : AreTitledApart sources files = record { are = titled; titles_differ = named.titles_differ } in
+      let unreserved : AreUnreserved sources files = record { titled = apart; unreserved = named.unreserved } in
+      let declared : AreDeclaredOnce sources files = record { unreserved = unreserved; declared_once = named.declared_once } in
+      let nodes : HaveNodes sources files = record { declared = declared; known = named.known } in
+      record { have = record { have = nodes; functions = named.functions }; arguments = named.arguments }
 
-  pub exactly : (sources : List SourceFile) (project : Project) →
-      (reading_of sources ≡ Reads project) ↔ (AreNotTooMuch sources × ProjectOf sources project × AreAccepted (nodes_of project.files))
-  exactly sources project = (read-stands sources project, λ is. stands-read sources project is.0 is.1 is.2)
+  accepted-all : (signatures : List Signature) (sources : List SourceFile) → IsAccepted signatures sources (lines_of_files sources) →
+      NonePlaced (all_places signatures sources)
+  accepted-all signatures sources is =
+      none-more (to_id sources signatures) kind.DuplicateLineId (ids_seen (reads_from true 0 sources)).again
+      (none-arguments laws sources signatures (accepted-calls signatures sources (lines_of_files sources) is)) ((ids-again laws sources).1 is.named.ids_differ)
+
+  pub exactly : (signatures : List Signature) (sources : List SourceFile) (files : List FileLines) →
+      (reading_of signatures sources ≡ Reads files) ↔ IsAccepted signatures sources files
+  exactly signatures sources files = (
+    λ reads.
+        let all = all-none (all_places signatures sources) (lines_of_files sources) files (sym (the-reading signatures sources) ∙ reads) in
+        subst (IsAccepted signatures sources) all.1 (all-accepted signatures sources all.0),
+    λ is.
+        let same = lined-same laws sources files (record { light = is.light; have = is.have; blocks = is.limits.blocks }) in
+        the-reading signatures sources
+        ∙ none-all (all_places signatures sources) (lines_of_files sources) (accepted-all signatures sources (subst (IsAccepted signatures sources) (sym same) is))
+        ∙ ap Reads same,
+  )
+
+  have-one : (sources : List SourceFile) (a b : List FileLines) → Pairs (Stands true) sources a → Pairs (Stands true) sources b → a ≡ b
+  have-one sources a b x y = sym (stand-sources laws true 0 sources a x).same ∙ (stand-sources laws true 0 sources b y).same
 
   pub one_project : (sources : List SourceFile) (a b : Project) → ProjectOf sources a → ProjectOf sources b → a ≡ b
   one_project sources a b x y =
-      let files : a.files ≡ b.files = sym (stand-trees items_found 0 sources a.files x) ∙ stand-trees items_found 0 sources b.files y in
-      ap (λ (l : List File). record { files = l }) files
+      let lines : x.lines ≡ y.lines =
+      have-one sources x.lines y.lines (have-stand sources x.lines x.have (files-blocks x.lines a.files x.are))
+      (have-stand sources y.lines y.have (files-blocks y.lines b.files y.are)) in
+      let are : AreFilesOf y.lines a.files = subst (λ (l : List FileLines). AreFilesOf l a.files) lines x.are in
+      ap (λ (l : List File). record { files = l }) (files-same y.lines a.files b.files are y.are)
+
+  one-of : (ids : Bool) (source : SourceFile) (a b : File) → StandsFor (naming ids) source a → StandsFor (naming ids) source b → a ≡ b
+  one-of ids source a b x y =
+      let one = stands-source laws ids 0 source x.lines (x.has, nodes-blocks x.lines.nodes a.nodes x.is.nodes) in
+      let two = stands-source laws ids 0 source y.lines (y.has, nodes-blocks y.lines.nodes b.nodes y.is.nodes) in
+      let lines : x.lines ≡ y.lines = sym one.same ∙ two.same in
+      file-same y.lines a b (subst (λ (l : FileLines). IsFileOf l a) lines x.is) y.is
 
   pub one_file : (source : SourceFile) (a b : File) →
       (StandsFor HasIds source a → StandsFor HasIds source b → a ≡ b) × (StandsFor HasNoIds source a → StandsFor HasNoIds source b → a ≡ b)
-  one_file source a b = (
-    λ x y. sym (stands-tree items_found true source a x) ∙ stands-tree items_found true source b y,
-    λ x y. sym (stands-tree items_found false source a x) ∙ stands-tree items_found false source b y,
-  )
+  one_file source a b = (one-of true source a b, one-of false source a b)
 
-  file-stands : (source : SourceFile) (file : File) → file_reading_of source ≡ Reads file →
-      (length source.bytes ≤ 4194304) × StandsFor HasNoIds source file × (length file.nodes ≤ 65536)
-  file-stands source file reads =
-      let all = all-reads (places_alone source) (Reads (tree_in false source)) file (sym (the-file_reading source) ∙ reads) in
-      let same : tree_in false source ≡ file = let e = all.1 in cc in
-      let none = all.0 in
-      let clear : IsClear source =
-      record {
-        good = at-none 0 _ none.bad;
-        short = at-none 0 _ none.long;
-        built = at-none 0 _ none.unbuilt;
-        fine = at-none 0 _ (or-none (noted_in Bad (read_in source)) None none.nothing).0;
-        placed = at-none 0 _ (or-none (noted_in Misplaced (read_in source)) None none.misplaced).0;
-      } in
-      let few : length ((tree_in false source).nodes ++ []) ≤ 65536 = extra-few 65536 (read_in source ∷ []) none.extra in (
-        alone_small source none.much,
-        subst (StandsFor HasNoIds source) same (clear-stands items_found false source clear),
-        subst (λ (f : File). length f.nodes ≤ 65536) same (subst (λ (l : List Node). length l ≤ 65536) (append-nil (tree_in false source).nodes) few),
-      )
+-- a file alone
+module _ (source : SourceFile) where
+  abbrev alone : List SourceFile
+  alone = source ∷ []
 
-  file-read : (source : SourceFile) (file : File) → length source.bytes ≤ 4194304 → StandsFor HasNoIds source file → length file.nodes ≤ 65536 →
-      file_reading_of source ≡ Reads file
-  file-read source file small stands few =
-      let clear = stands-clear items_found false source file stands in
-      let same : tree_in false source ≡ file = stands-tree items_found false source file stands in
-      let p = places_alone source in
-      let count : length ((tree_in false source).nodes ++ []) ≤ 65536 =
-      subst (λ (l : List Node). length l ≤ 65536) (sym (append-nil (tree_in false source).nodes)) (subst (λ (f : File). length f.nodes ≤ 65536) (sym same) few) in
-      the-file_reading source
-      ∙ lines-none p (trees_on p (names_on p (Reads (tree_in false source)))) (small-alone source small) (none-at 0 (bad_in source) clear.good)
-      (none-at 0 (long_in source) clear.short) (none-at 0 _ clear.built)
-      ∙ trees-none p (names_on p (Reads (tree_in false source))) (none-or (noted_in Bad (read_in source)) None (none-at 0 _ clear.fine) refl)
-      (none-or (noted_in Misplaced (read_in source)) None (none-at 0 _ clear.placed) refl) (few-extra 65536 (read_in source ∷ []) count)
-      ∙ ap Reads same
+  abbrev to_limits : Chain
+  to_limits =
+      (kind.TooMuch, big_alone source) ∷ (kind.BadUtf8, at_file 0 (bad_in source)) ∷ (kind.LineTooLong, at_file 0 (long_in source))
+      ∷ (kind.BadLine, noted_of note.Bad false (source ∷ [])) ∷ (kind.BadStructure, noted_of note.Misplaced false (source ∷ []))
+      ∷ (kind.TooDeep, noted_of note.TooDeep false (source ∷ [])) ∷ (kind.TooMany, first_excess (reads_from false 0 (source ∷ [])))
+      ∷ (kind.Fraction, noted_of note.Fraction false (source ∷ [])) ∷ (kind.NumberTooLarge, noted_of note.TooLarge false (source ∷ [])) ∷ []
 
-  pub file_exactly : (source : SourceFile) (file : File) →
-      (file_reading_of source ≡ Reads file) ↔ ((length source.bytes ≤ 4194304) × StandsFor HasNoIds source file × (length file.nodes ≤ 65536))
-  file_exactly source file = (file-stands source file, λ is. file-read source file is.0 is.1 is.2)
+  abbrev file_alone : FileLines
+  file_alone = (lines_read false 0 source).file
+
+  the-file_reading : file_reading_of source ≡ chained to_limits file_alone
+  unfolding file_reading_of
+  the-file_reading = refl
+
+  module _ (laws : NodeLaws) where
+    all-alone : NonePlaced to_limits → IsAcceptedAlone source file_alone
+    all-alone none =
+        let (much, (bad, (long, (nothing, (misplaced, (deep, (excess, (fraction, (large, end))))))))) = none in
+        let readable = readable-found source.bytes (at-none 0 (bad_in source) bad) (at-none 0 (long_in source) long) in
+        let stand = sources-stand laws false 0 alone (All-cons CanBeRead source [] readable (All-nil CanBeRead))
+        ((noted-none note.Bad false alone).0 nothing) ((noted-none note.Misplaced false alone).0 misplaced) in
+        let few = (excess-tells laws false alone stand).none.0 excess in
+        let fractions = (fractions-tell laws false alone).none.0 fraction in
+        let larges = (large-tell laws false alone).none.0 large in
+        record {
+          light = alone_small source much;
+          has = stand.0.0;
+          fine = record {
+            holes = All-head (HasNoLine HasManyHoles) source [] few.holes;
+            fractions = All-head (HasNoLine HasFraction) source [] fractions;
+            large = All-head (HasNoLine HasLarge) source [] larges;
+          };
+          limits = record {
+            blocks = All-cons AreBlocks file_alone [] stand.0.1 (All-nil AreBlocks);
+            shallow = (deep-tells laws false alone stand).none.0 deep;
+            small = few.small;
+            few_nodes = few.few_nodes;
+            few_variables = few.few_variables;
+          };
+        }
+
+    alone-stands : (file : FileLines) → IsAcceptedAlone source file → Stands false source file
+    alone-stands file is = (is.has, All-head AreBlocks file [] is.limits.blocks)
+
+    alone-all : IsAcceptedAlone source file_alone → NonePlaced to_limits
+    alone-all is =
+        let stands = alone-stands file_alone is in
+        let stand : Pairs (Stands false) alone (file_alone ∷ []) = (stands, tt) in
+        let read = stands-source laws false 0 source file_alone stands in
+        let told = readable-told source.bytes read.readable in
+        let one = λ (P : SourceFile → Type 0) (p : P source). All-cons P source [] p (All-nil P) in (
+          small-alone source is.light,
+          (
+            none-at 0 (bad_in source) told.0,
+            (
+              none-at 0 (long_in source) told.1,
+              (
+                (noted-none note.Bad false alone).1 (one NothingBad read.good),
+                (
+                  (noted-none note.Misplaced false alone).1 (one NothingMisplaced read.placed),
+                  (
+                    (deep-tells laws false alone stand).none.1 is.limits.shallow,
+                    (
+                      (excess-tells laws false alone stand).none.1
+                          (record { holes = one (HasNoLine HasManyHoles) is.fine.holes; small = is.limits.small; few_nodes = is.limits.few_nodes; few_variables = is.limits.few_variables }),
+                      (
+                        (fractions-tell laws false alone).none.1 (one (HasNoLine HasFraction) is.fine.fractions),
+                        (
+                          (large-tell laws false alone).none.1 (one (HasNoLine HasLarge) is.fine.large),
+                          tt,
+                        ),
+                      ),
+                    ),
+                  ),
+                ),
+              ),
+            ),
+          ),
+        )
+
+    pub file_exactly : (file : FileLines) → (file_reading_of source ≡ Reads file) ↔ IsAcceptedAlone source file
+    file_exactly file = (
+      λ reads.
+          let all = all-none to_limits file_alone file (sym the-file_reading ∙ reads) in
+          subst (IsAcceptedAlone source) all.1 (all-alone all.0),
+      λ is.
+          let same = (stands-source laws false 0 source file (alone-stands file is)).same in
+          the-file_reading ∙ none-all to_limits file_alone (alone-all (subst (IsAcceptedAlone source) (sym same) is)) ∙ ap Reads same,
+    )

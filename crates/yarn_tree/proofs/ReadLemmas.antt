@@ -2,6 +2,7 @@
 use Rattle.std.proofs.Common.{◌≡◌, List, Option, Some, None, sym, ap, ◌∙◌, subst}
 use Rattle.yarn_base.specs.declared.Place.{Place}
 use Rattle.yarn_base.specs.declared.SourceFile.{SourceFile}
+use Rattle.yarn_value.specs.declared.signature.Signature.{Signature}
 use Rattle.yarn_tree.specs.declared.refusal.ProjectFault.{ProjectFault}
 use Rattle.yarn_tree.specs.declared.refusal.ProjectFault.TheVariants.{Refused, Memory}
 use Rattle.yarn_tree.specs.declared.refusal.RefusalKind.TheVariants.{TooMuch, BadUtf8, LineTooLong}
@@ -27,25 +28,25 @@ split-off None None split next (Refused refusal) is = absurd cc
 split-off None (Some place) split next (Refused refusal) is = cc
 split-off (Some place) long split next (Refused refusal) is = cc
 
-pub too_much-told : (sources : List SourceFile) (place : Place) (fault : ProjectFault) → too_much 0 0 sources ≡ Some place → IsTold TooMuch (Some place) fault →
-    IsFault (reading_of sources) fault
+pub too_much-told : (signatures : List Signature) (sources : List SourceFile) (place : Place) (fault : ProjectFault) → too_much 0 0 sources ≡ Some place → IsTold TooMuch (Some place) fault →
+    IsFault (reading_of signatures sources) fault
 unfolding reading_of
-too_much-told sources place fault is told =
+too_much-told signatures sources place fault is told =
     told-here TooMuch (too_much 0 0 sources) _ fault (subst (λ (o : Option Place). IsTold TooMuch o fault) (sym is) told)
 
-pub split-read : (sources : List SourceFile) (splits : List SplitFile) → too_much 0 0 sources ≡ None → sources_split sources ≡ Reads splits →
-    reading_of sources ≡ splits_read splits
+pub split-read : (signatures : List Signature) (sources : List SourceFile) (splits : List SplitFile) → too_much 0 0 sources ≡ None → sources_split sources ≡ Reads splits →
+    reading_of signatures sources ≡ splits_read signatures splits
 unfolding reading_of
-split-read sources splits none is =
-    ap (λ (o : Option Place). unless TooMuch o (unless BadUtf8 (first_line bad_in 0 sources) (unless LineTooLong (first_line long_in 0 sources) (splits_read (splits_from 0 sources))))) none
-    ∙ split-on (first_line bad_in 0 sources) (first_line long_in 0 sources) (splits_from 0 sources) splits splits_read is
+split-read signatures sources splits none is =
+    ap (λ (o : Option Place). unless TooMuch o (unless BadUtf8 (first_line bad_in 0 sources) (unless LineTooLong (first_line long_in 0 sources) (splits_read signatures (splits_from 0 sources))))) none
+    ∙ split-on (first_line bad_in 0 sources) (first_line long_in 0 sources) (splits_from 0 sources) splits (splits_read signatures) is
 
-pub unsplit-read : (sources : List SourceFile) (fault : ProjectFault) → too_much 0 0 sources ≡ None → IsFault (sources_split sources) fault →
-    IsFault (reading_of sources) fault
+pub unsplit-read : (signatures : List Signature) (sources : List SourceFile) (fault : ProjectFault) → too_much 0 0 sources ≡ None → IsFault (sources_split sources) fault →
+    IsFault (reading_of signatures sources) fault
 unfolding reading_of
-unsplit-read sources fault none is =
+unsplit-read signatures sources fault none is =
     fault-past TooMuch (too_much 0 0 sources) _ fault none
-    (split-off (first_line bad_in 0 sources) (first_line long_in 0 sources) (splits_from 0 sources) (splits_read (splits_from 0 sources)) fault is)
+    (split-off (first_line bad_in 0 sources) (first_line long_in 0 sources) (splits_from 0 sources) (splits_read signatures (splits_from 0 sources)) fault is)
 
 pub big-told : (source : SourceFile) (place : Place) (fault : ProjectFault) → big_alone source ≡ Some place → IsTold TooMuch (Some place) fault →
     IsFault (file_reading_of source) fault

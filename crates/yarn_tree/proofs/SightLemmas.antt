@@ -5,7 +5,7 @@ use Rattle.std.proofs.lemmas.Slice.Eq.{bytes_eq-Decides}
 use Rattle.yarn_base.specs.declared.Place.{Place}
 use Rattle.yarn_tree.specs.Laws.{IsAmong, AreDistinct, names_in, IsAgainAt}
 use Rattle.yarn_tree.specs.Names.{NameAt, Sight, no_name, and_name, no_sight, sees, sees_all}
-use Rattle.yarn_tree.specs.Places.{or_later}
+use Rattle.yarn_nodes.specs.Places.{or_later}
 
 pub among-left : (a b : List (List ℕ)) (x : List ℕ) → IsAmong a x → IsAmong (a ++ b) x
 among-left [] b x is = absurd is

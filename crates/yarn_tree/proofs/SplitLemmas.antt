@@ -8,7 +8,8 @@ use Rattle.yarn_tree.specs.declared.refusal.ProjectFault.{ProjectFault}
 use Rattle.yarn_tree.specs.declared.refusal.RefusalKind.TheVariants.{BadUtf8, LineTooLong}
 use Rattle.yarn_tree.specs.declared.split.Splitter.{Splitter}
 use Rattle.yarn_tree.specs.declared.stages.SplitFile.{SplitFile}
-use Rattle.yarn_tree.specs.Places.{or_later, at_file, first_line}
+use Rattle.yarn_nodes.specs.Places.{or_later}
+use Rattle.yarn_tree.specs.Places.{at_file, first_line}
 use Rattle.yarn_tree.specs.Reading.{Reading, Reads, Refuses, unless, IsFault, sources_split}
 use Rattle.yarn_tree.specs.Splits.{bad_in, long_in, split_of, splits_from}
 use Rattle.yarn_tree.specs.Splitter.{splits_on, split_put, long_noted}

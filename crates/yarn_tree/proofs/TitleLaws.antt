@@ -1,134 +1,107 @@
--- The places of BadTitle and DuplicateTitle.
-use Rattle.std.proofs.Common.{◌≡◌, ◌↔◌, ◌≤◌, ℕ, ◌+◌, List, [], ◌∷◌, ◌++◌, length, true, false, Option, None, All, refl, sym, ap, ◌∙◌, subst}
-use Rattle.std.proofs.lemmas.List.Elements.{All-nil, All-cons, All-weaker}
+-- The places of titles.
+use Rattle.std.proofs.Common.{◌≡◌, ◌↔◌, ℕ, ◌+◌, List, [], ◌∷◌, ◌++◌, true, Some, None, All, refl, sym, ap, ◌∙◌, subst}
+use Rattle.std.proofs.lemmas.List.Elements.{All-head, All-tail}
 use Rattle.yarn_base.specs.declared.Place.{Place}
 use Rattle.yarn_base.specs.declared.SourceFile.{SourceFile}
-use Rattle.yarn_lines.specs.Lines.{lines_of}
-use Rattle.yarn_items.specs.declared.item.Mode.TheVariants.{InHeaders}
+use Rattle.yarn_value.specs.declared.signature.Signature.{Signature}
+use Rattle.yarn_nodes.specs.declared.node.FileLines.{FileLines}
+use Rattle.yarn_nodes.specs.declared.node.Note.TheVariants as note
+use Rattle.yarn_nodes.specs.declared.node.Titled.{Titled}
+use Rattle.yarn_nodes.specs.Laws.{lines_read, HasFineTitles, IsBadTitleIn, titles_in as header_titles}
 use Rattle.yarn_tree.specs.declared.refusal.RefusalKind.TheVariants as kind
-use Rattle.yarn_tree.specs.declared.stages.Note.TheVariants.{Mistitled}
-use Rattle.yarn_tree.specs.declared.tree.File.{File}
-use Rattle.yarn_tree.specs.declared.tree.Project.{Project}
-use Rattle.yarn_tree.specs.Checks.{noted_in, titles_of}
-use Rattle.yarn_items.specs.Laws.{ItemsAreFound}
-use Rattle.yarn_tree.specs.Laws.{AreNotTooMuch, nodes_of, IsWellTitled, IsAgainAt, IsFirstOf, HasFineTitles, IsBadTitleIn, title_places_in, AreTitlePlaces}
+use Rattle.yarn_tree.specs.Checks.{titles_in, titles_of, titles_seen}
+use Rattle.yarn_tree.specs.Laws.{IsAgainAt, IsFirstOf, AreKept, AreTitled, AreTitlePlaces}
 use Rattle.yarn_tree.specs.Names.{NameAt}
-use Rattle.yarn_tree.specs.Places.{or_later, at_file, first_place, first_line}
-use Rattle.yarn_tree.specs.Project.{ProjectOf}
-use Rattle.yarn_tree.specs.Reader.{file_of}
-use Rattle.yarn_tree.specs.Reading.{Refuses, reading_of, project_of}
-use Rattle.yarn_tree.specs.Splits.{split_of}
-use Rattle.yarn_tree.specs.Titles.{first_mistitled}
-use Rattle.yarn_tree.proofs.CountLemmas.{extra-few, few-extra}
-use Rattle.yarn_tree.proofs.FirstLemmas.{Decides, first-found, found-first}
-use Rattle.yarn_tree.proofs.LawLemmas.{reads_in, places_in, trees_in}
-use Rattle.yarn_tree.proofs.LineLaws.{the-reading}
-use Rattle.yarn_tree.proofs.LinesLemmas.{IsClear, items_in, items-have, fine-items}
-use Rattle.yarn_tree.proofs.RefusalLemmas.{told-mistitled, tell-mistitled, told-again, tell-again}
+use Rattle.yarn_tree.specs.Reading.{Refuses, reading_of}
+use Rattle.yarn_tree.proofs.FirstLemmas.{Pairs, Decides}
+use Rattle.yarn_tree.proofs.LawLemmas.{the-reading}
+use Rattle.yarn_tree.proofs.LimitLemmas.{Tells, noted_of, noted-tells, titles-clear}
+use Rattle.yarn_tree.proofs.NodeLaws.{NodeLaws}
+use Rattle.yarn_tree.proofs.PlaceLaws.{law, law-of, after_title, after_again}
 use Rattle.yarn_tree.proofs.SightLemmas.{no_sight-again, again-no_sight}
-use Rattle.yarn_tree.proofs.SizeLemmas.{not_too_much, none_too_much}
-use Rattle.yarn_tree.proofs.SourceLemmas.{or-none, at-none, AllClear, reads_from, clear-all, all-clear, all-stand, stand-clear, stand-trees}
-use Rattle.yarn_tree.proofs.TitlePlaceLemmas.{fine-none, none-fine, bad-found, found-bad, file-places}
-use Rattle.yarn_tree.proofs.WellLemmas.{all-well, well-all}
+use Rattle.yarn_tree.proofs.SourceLemmas.{reads_from, noted_line, number-read, Stands}
+use Rattle.yarn_tree.proofs.StageLemmas as StageLemmas
+use Rattle.yarn_tree.proofs.StageLemmas.{lines_of_files, noted-none}
 
-abbrev mistitled_line : SourceFile → Option ℕ
-mistitled_line source = first_mistitled false (items_in source)
+abbrev NothingMistitled : SourceFile → Type 0
+NothingMistitled source = noted_line note.Mistitled source ≡ None
 
-mistitled-lines : (n : ℕ) (sources : List SourceFile) → first_place (noted_in Mistitled) (reads_from n sources) ≡ first_line mistitled_line n sources
-mistitled-lines n [] = refl
-mistitled-lines n (source ∷ sources) = ap (or_later (at_file n (mistitled_line source))) (mistitled-lines (n + 1) sources)
+module _ (laws : NodeLaws) where
+  -- each source beside itself, where it stands for a file
+  mistitled-sources : (sources : List SourceFile) (files : List FileLines) → Pairs (Stands true) sources files →
+      Pairs (Decides (noted_line note.Mistitled) HasFineTitles IsBadTitleIn) sources sources
+  mistitled-sources [] [] stand = tt
+  mistitled-sources [] (file ∷ files) stand = absurd stand
+  mistitled-sources (source ∷ sources) [] stand = absurd stand
+  mistitled-sources (source ∷ sources) (file ∷ files) stand =
+      let titled = laws.titled true 0 source file stand.0.0 stand.0.1 in
+      (record { none = titled.none; some = titled.some }, mistitled-sources sources files stand.1)
 
-clears : (sources : List SourceFile) → AllClear sources → All IsClear sources
-clears [] clear = All-nil IsClear
-clears (source ∷ sources) clear = All-cons IsClear source sources clear.0 (clears sources clear.1)
+  mistitled-tells : (s : List SourceFile) → AreKept s (lines_of_files s) →
+      Tells (noted_of note.Mistitled true s) (All HasFineTitles s) (IsFirstOf HasFineTitles IsBadTitleIn s)
+  mistitled-tells s kept =
+      noted-tells note.Mistitled true s s HasFineTitles IsBadTitleIn
+      (mistitled-sources s (lines_of_files s) (StageLemmas.lined-stand laws s (lines_of_files s) kept.whole.few.shallow.lined))
 
-module _ (items_found : ItemsAreFound) where
-  mistitled-source : (source : SourceFile) → IsClear source → Decides mistitled_line HasFineTitles IsBadTitleIn source
-  mistitled-source source clear =
-      let lines = (lines_of source.bytes).lines in
-      let has = fine-items items_found InHeaders lines clear.built clear.fine in
-      record {
-        none = λ none. record { items = items_in source; has = has; fine = none-fine [] (items_in source) none };
-        told_none = λ fine. ap (first_mistitled false) (items-have items_found InHeaders lines fine.items fine.has).0 ∙ fine-none [] fine.items fine.fine;
-        at = λ number told. record { items = items_in source; has = has; at = bad-found [] (items_in source) number told };
-        told_at = λ number is. ap (first_mistitled false) (items-have items_found InHeaders lines is.items is.has).0 ∙ found-bad [] is.items number is.at;
-      }
-
-  mistitled-sources : (sources : List SourceFile) → AllClear sources → All (Decides mistitled_line HasFineTitles IsBadTitleIn) sources
-  mistitled-sources sources clear = All-weaker IsClear (Decides mistitled_line HasFineTitles IsBadTitleIn) mistitled-source sources (clears sources clear)
-
-  pub bad_title : (sources : List SourceFile) (place : Place) →
-      (reading_of sources ≡ Refuses kind.BadTitle place)
-      ↔ (AreNotTooMuch sources × ((project : Project) × ProjectOf sources project × (length (nodes_of project.files) ≤ 65536))
-      × IsFirstOf HasFineTitles IsBadTitleIn sources place)
-  bad_title sources place = (
-    λ is.
-        let t = told-mistitled (places_in sources) (project_of (reads_in sources)) place (sym (the-reading sources) ∙ is) in
-        let clear = clear-all 0 sources (record { good = t.1; short = t.2; built = t.3; fine = t.4; placed = t.5 }) in (
-          not_too_much sources t.0,
-          (project_of (reads_in sources), all-stand items_found 0 sources clear, extra-few 65536 (reads_in sources) t.6),
-          first-found mistitled_line HasFineTitles IsBadTitleIn sources place (mistitled-sources sources clear) (sym (mistitled-lines 0 sources) ∙ t.7),
-        ),
-    λ is.
-        let project = is.1.0 in
-        let clear = stand-clear items_found sources project.files is.1.1 in
-        let refused = all-clear 0 sources clear in
-        let files : project.files ≡ trees_in sources = sym (stand-trees items_found 0 sources project.files is.1.1) in
-        let few = subst (λ (l : List File). length (nodes_of l) ≤ 65536) files is.1.2 in
-        the-reading sources
-        ∙ tell-mistitled (places_in sources) (project_of (reads_in sources)) place (none_too_much sources is.0) refused.good refused.short refused.built refused.fine
-        refused.placed (few-extra 65536 (reads_in sources) few)
-        (mistitled-lines 0 sources ∙ found-first mistitled_line HasFineTitles IsBadTitleIn sources place (mistitled-sources sources clear) is.2),
-  )
-
-  titles-placed : (n : ℕ) (sources : List SourceFile) → AllClear sources → first_place (noted_in Mistitled) (reads_from n sources) ≡ None →
-      AreTitlePlaces n sources (titles_of (reads_from n sources))
-  titles-placed n [] clear none = refl
-  titles-placed n (source ∷ sources) clear none =
-      let both = or-none (noted_in Mistitled (file_of true (split_of n source))) (first_place (noted_in Mistitled) (reads_from (n + 1) sources)) none in
-      let lines = (lines_of source.bytes).lines in (
-        items_in source,
-        titles_of (reads_from (n + 1) sources),
-        fine-items items_found InHeaders lines clear.0.built clear.0.fine,
-        titles-placed (n + 1) sources clear.1 both.1,
-        ap (λ (l : List NameAt). l ++ titles_of (reads_from (n + 1) sources))
-            (file-places n (items_in source) (lines_of source.bytes).end clear.0.placed (at-none n (mistitled_line source) both.0)),
+  titles-placed : (n : ℕ) (sources : List SourceFile) (files : List FileLines) → Pairs (Stands true) sources files → All NothingMistitled sources →
+      AreTitlePlaces n sources (titles_of (reads_from true n sources))
+  titles-placed n [] files stand none = refl
+  titles-placed n (source ∷ sources) [] stand none = absurd stand
+  titles-placed n (source ∷ sources) (file ∷ files) stand none =
+      let has = stand.0.0 in
+      let rest = titles_of (reads_from true (n + 1) sources) in
+      let same = (laws.titled true n source file has stand.0.1).titles (All-head NothingMistitled source sources none) has.items has.has_items in (
+        has.items,
+        rest,
+        has.has_items,
+        titles-placed (n + 1) sources files stand.1 (All-tail NothingMistitled source sources none),
+        ap (λ (k : ℕ). titles_in k (lines_read true n source).titles ++ rest) (number-read true n source)
+            ∙ ap (λ (l : List Titled). titles_in n l ++ rest) same,
       )
 
-  placed-titles : (n : ℕ) (sources : List SourceFile) (places : List NameAt) → AllClear sources → first_place (noted_in Mistitled) (reads_from n sources) ≡ None →
-      AreTitlePlaces n sources places → places ≡ titles_of (reads_from n sources)
-  placed-titles n [] places clear none are = are
-  placed-titles n (source ∷ sources) places clear none are =
-      let both = or-none (noted_in Mistitled (file_of true (split_of n source))) (first_place (noted_in Mistitled) (reads_from (n + 1) sources)) none in
-      let have = items-have items_found InHeaders (lines_of source.bytes).lines are.0 are.2 in
+  placed-titles : (n : ℕ) (sources : List SourceFile) (files : List FileLines) (places : List NameAt) → Pairs (Stands true) sources files →
+      All NothingMistitled sources → AreTitlePlaces n sources places → places ≡ titles_of (reads_from true n sources)
+  placed-titles n [] files places stand none are = are
+  placed-titles n (source ∷ sources) [] places stand none are = absurd stand
+  placed-titles n (source ∷ sources) (file ∷ files) places stand none are =
+      let rest = titles_of (reads_from true (n + 1) sources) in
+      let same = (laws.titled true n source file stand.0.0 stand.0.1).titles (All-head NothingMistitled source sources none) are.0 are.2 in
       are.4
-      ∙ ap (λ (l : List NameAt). title_places_in n are.0 ++ l) (placed-titles (n + 1) sources are.1 clear.1 both.1 are.3)
-      ∙ ap (λ (l : List NameAt). l ++ titles_of (reads_from (n + 1) sources))
-      (ap (title_places_in n) (sym have.0)
-      ∙ sym (file-places n (items_in source) (lines_of source.bytes).end clear.0.placed (at-none n (mistitled_line source) both.0)))
+      ∙ ap (λ (l : List NameAt). titles_in n (header_titles are.0) ++ l)
+      (placed-titles (n + 1) sources files are.1 stand.1 (All-tail NothingMistitled source sources none) are.3)
+      ∙ ap (λ (l : List Titled). titles_in n l ++ rest) (sym same)
+      ∙ sym (ap (λ (k : ℕ). titles_in k (lines_read true n source).titles ++ rest) (number-read true n source))
 
-  pub duplicate_title : (sources : List SourceFile) (place : Place) →
-      (reading_of sources ≡ Refuses kind.DuplicateTitle place)
-      ↔ (AreNotTooMuch sources
-      × ((project : Project) × ProjectOf sources project × (length (nodes_of project.files) ≤ 65536) × All IsWellTitled (nodes_of project.files))
-      × ((places : List NameAt) × AreTitlePlaces 0 sources places × IsAgainAt places place))
-  duplicate_title sources place = (
-    λ is.
-        let t = told-again (places_in sources) (project_of (reads_in sources)) place (sym (the-reading sources) ∙ is) in
-        let clear = clear-all 0 sources (record { good = t.1; short = t.2; built = t.3; fine = t.4; placed = t.5 }) in (
-          not_too_much sources t.0,
-          (project_of (reads_in sources), all-stand items_found 0 sources clear, extra-few 65536 (reads_in sources) t.6, all-well items_found 0 sources clear t.7),
-          (titles_of (reads_in sources), titles-placed 0 sources clear t.7, no_sight-again (titles_of (reads_in sources)) place t.8),
-        ),
-    λ is.
-        let project = is.1.0 in
-        let clear = stand-clear items_found sources project.files is.1.1 in
-        let refused = all-clear 0 sources clear in
-        let files : project.files ≡ trees_in sources = sym (stand-trees items_found 0 sources project.files is.1.1) in
-        let few = subst (λ (l : List File). length (nodes_of l) ≤ 65536) files is.1.2 in
-        let well = well-all items_found 0 sources clear (subst (λ (l : List File). All IsWellTitled (nodes_of l)) files is.1.3) in
-        let at = subst (λ (l : List NameAt). IsAgainAt l place) (placed-titles 0 sources is.2.0 clear well is.2.1) is.2.2 in
-        the-reading sources
-        ∙ tell-again (places_in sources) (project_of (reads_in sources)) place (none_too_much sources is.0) refused.good refused.short refused.built refused.fine
-        refused.placed (few-extra 65536 (reads_in sources) few) well (again-no_sight (titles_of (reads_in sources)) place at),
-  )
+  module _ (signatures : List Signature) (s : List SourceFile) where
+    abbrev files : List FileLines
+    files = lines_of_files s
+
+    pub bad_title : (place : Place) →
+        (reading_of signatures s ≡ Refuses kind.BadTitle place)
+        ↔ ((files : List FileLines) × AreKept s files × IsFirstOf HasFineTitles IsBadTitleIn s place)
+    bad_title place =
+        law-of signatures s laws (AreKept s) (λ l. IsFirstOf HasFineTitles IsBadTitleIn s) (λ l is. is.whole.few.shallow.lined) _ place
+        (law signatures s (AreKept s files) (IsFirstOf HasFineTitles IsBadTitleIn s) (StageLemmas.to_title s) kind.BadTitle (noted_of note.Mistitled true s)
+        (after_title signatures s) refl refl (the-reading signatures s) (StageLemmas.numbers-none laws s) (StageLemmas.none-numbers laws s)
+        (λ kept. (mistitled-tells s kept).some) place)
+
+    -- a title comes again
+    abbrev IsTwice : Place → Type 0
+    IsTwice place = (places : List NameAt) × AreTitlePlaces 0 s places × IsAgainAt places place
+
+    again-place : AreTitled s (lines_of_files s) → (place : Place) → ((titles_seen (reads_from true 0 s)).again ≡ Some place) ↔ IsTwice place
+    again-place titled place =
+        let stand = StageLemmas.lined-stand laws s files titled.kept.whole.few.shallow.lined in
+        let none = (noted-none note.Mistitled true s).0 ((titles-clear laws true s stand).1 titled.titled) in
+        let names = titles_of (reads_from true 0 s) in (
+          λ told. (names, titles-placed 0 s files stand none, no_sight-again names place told),
+          λ is. again-no_sight names place (subst (λ (l : List NameAt). IsAgainAt l place) (placed-titles 0 s files is.0 stand none is.1) is.2),
+        )
+
+    pub duplicate_title : (place : Place) →
+        (reading_of signatures s ≡ Refuses kind.DuplicateTitle place)
+        ↔ ((files : List FileLines) × AreTitled s files × ((places : List NameAt) × AreTitlePlaces 0 s places × IsAgainAt places place))
+    duplicate_title place =
+        law-of signatures s laws (AreTitled s) (λ l. IsTwice) (λ l is. is.kept.whole.few.shallow.lined) _ place
+        (law signatures s (AreTitled s files) IsTwice (StageLemmas.to_again s) kind.DuplicateTitle (titles_seen (reads_from true 0 s)).again
+        (after_again signatures s) refl refl (the-reading signatures s) (StageLemmas.titled-none laws s) (StageLemmas.none-titled laws s) again-place place)

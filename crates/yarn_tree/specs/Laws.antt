@@ -1,31 +1,31 @@
 -- Laws that tie the reading to what files stand for (docs/language.md, Nodes and Refusals of a project).
-use Rattle.std.specs.Prelude.{◌≡◌, ◌↔◌, ◌≤◌, ℕ, ◌+◌, List, [], ◌∷◌, ◌++◌, length, true, false, if◌then◌else◌, All, ⊤, ◌⊎◌, codes}
+use Rattle.std.specs.Prelude.{◌≡◌, ◌↔◌, ◌≤◌, ℕ, ◌+◌, List, [], ◌∷◌, ◌++◌, length, false, All, None, ⊤, ◌⊎◌, Option}
 use Rattle.std.specs.List.{flat_map}
-use Rattle.std.specs.Str.{bytes_eq, chars}
-use Rattle.yarn_base.specs.Name.{is_name_of}
 use Rattle.yarn_base.specs.declared.Place.{Place}
 use Rattle.yarn_base.specs.declared.SourceFile.{SourceFile}
-use Rattle.yarn_lines.specs.declared.line.RawLine.{RawLine}
+use Rattle.yarn_value.specs.declared.signature.Signature.{Signature}
 use Rattle.yarn_lines.specs.Lines.{lines_of}
 use Rattle.yarn_items.specs.declared.item.Mode.{Mode}
-use Rattle.yarn_items.specs.declared.item.Mode.TheVariants.{InHeaders, InBody}
-use Rattle.yarn_items.specs.declared.item.Header.{Header}
-use Rattle.yarn_items.specs.declared.item.Item.{Item}
-use Rattle.yarn_items.specs.declared.item.Item.TheVariants as item
-use Rattle.yarn_items.specs.Item.{IsItem, IsNotBuilt}
+use Rattle.yarn_items.specs.declared.item.Mode.TheVariants.{InHeaders}
+use Rattle.yarn_blocks.specs.Tree.{Stmts, deep_in, crowd_in}
+use Rattle.yarn_blocks.specs.Block.{Block}
+use Rattle.yarn_nodes.specs.declared.node.FileLines.{FileLines}
+use Rattle.yarn_nodes.specs.declared.node.NodeLines.{NodeLines}
+use Rattle.yarn_nodes.specs.Entries.{ItemAt}
+use Rattle.yarn_nodes.specs.Ids.{HasIds, HasNoIds}
+use Rattle.yarn_nodes.specs.Lines.{IsReadable, IsItems, HasLines}
+use Rattle.yarn_nodes.specs.Laws.{AreBlocks, HasNoLine, HasFirstLine, IsNothing, HasFraction, HasLarge, HasManyHoles, IsMisplacedIn, IsFirstShown, IsWellTitled, IsBadTitleIn, HasFineTitles, titles_in as header_titles}
 use Rattle.yarn_tree.specs.declared.refusal.RefusalKind.TheVariants as kind
-use Rattle.yarn_tree.specs.declared.tree.File.{File}
-use Rattle.yarn_tree.specs.declared.tree.Node.{Node}
-use Rattle.yarn_tree.specs.declared.tree.Project.{Project}
-use Rattle.yarn_tree.specs.declared.tree.Stmt.{Stmt}
-use Rattle.yarn_tree.specs.declared.tree.Stmt.TheVariants.{Line, Jump}
-use Rattle.yarn_tree.specs.Body.{ItemAt, HasIds, HasNoIds}
 use Rattle.yarn_tree.specs.Names.{NameAt}
-use Rattle.yarn_tree.specs.Project.{IsItems, IsFile, IsReadable, StandsFor, ProjectOf}
+use Rattle.yarn_tree.specs.Places.{is_before}
+use Rattle.yarn_tree.specs.Uses.{Use, Title, Variable, Declaration, Function, UseAt, uses_within}
+use Rattle.yarn_tree.specs.Checks.{titles_in, variables_in, declarations_in, is_reserved, is_unknown_function, has_wrong_count, ids_within}
+use Rattle.yarn_tree.specs.Project.{AllHaveLines, StandsFor, ProjectOf}
 use Rattle.yarn_tree.specs.Reading.{Reads, Refuses, reading_of, file_reading_of}
-use Rattle.yarn_tree.specs.Titles.{is_title}
+use Rattle.yarn_tree.specs.declared.tree.File.{File}
+use Rattle.yarn_tree.specs.declared.tree.Project.{Project}
 
--- What is accepted, in the words of trees.
+-- What is accepted, in the words of the lines of nodes.
 
 abbrev pub total : List SourceFile → ℕ
 total [] = 0
@@ -37,21 +37,10 @@ pub record AreNotTooMuch (sources : List SourceFile) : Type 0 where
   pub small : All (λ source. length source.bytes ≤ 4194304) sources
   pub light : total sources ≤ 33554432
 
-abbrev pub nodes_of : List File → List Node
+abbrev pub nodes_of : List FileLines → List NodeLines
 nodes_of files = flat_map (λ file. file.nodes) files
 
--- the values of the headers `title`
-abbrev pub titles_among : List Header → List (List ℕ)
-titles_among [] = []
-titles_among (h ∷ hs) = if is_title h then h.value ∷ titles_among hs else titles_among hs
-
--- one header is a title, and its value is a name
-pub record IsWellTitled (node : Node) : Type 0 where
-  pub value : List ℕ
-  pub one : titles_among node.headers ≡ value ∷ []
-  pub named : is_name_of (chars value) ≡ true
-
-abbrev pub titles : List Node → List (List ℕ)
+abbrev pub titles : List NodeLines → List (List ℕ)
 titles [] = []
 titles (node ∷ nodes) = node.title ∷ titles nodes
 
@@ -77,43 +66,79 @@ pub record IsAgainAt (xs : List NameAt) (place : Place) : Type 0 where
   pub differ : AreDistinct (names_in before)
   pub again : IsAmong (names_in before) name
 
--- the names in the jumps of a body
-abbrev pub jumps_in : List Stmt → List (List ℕ)
-jumps_in [] = []
-jumps_in (Line said ∷ body) = jumps_in body
-jumps_in (Jump head name ∷ body) = name ∷ jumps_in body
+-- at most so many different names
+pub record AreFew (most : ℕ) (names : List (List ℕ)) : Type 0 where
+  pub known : List (List ℕ)
+  pub few : length known ≤ most
+  pub all : All (IsAmong known) names
 
-abbrev pub jumps_of : List Node → List (List ℕ)
-jumps_of [] = []
-jumps_of (node ∷ nodes) = jumps_in node.body ++ jumps_of nodes
+-- what the lines of files use, the first of which has that number
+abbrev pub uses_from : ℕ → List FileLines → List UseAt
+uses_from n [] = []
+uses_from n (file ∷ files) = uses_within n file.nodes ++ uses_from (n + 1) files
 
--- the ids of the lines of a body
-abbrev pub line_ids : List Stmt → List (List ℕ)
-line_ids [] = []
-line_ids (Line said ∷ body) = said.id ∷ line_ids body
-line_ids (Jump head name ∷ body) = line_ids body
+-- the ids of the lines and the options of files, the first of which has that number
+abbrev pub ids_from : ℕ → List FileLines → List NameAt
+ids_from n [] = []
+ids_from n (file ∷ files) = ids_within n file.nodes ++ ids_from (n + 1) files
 
-abbrev pub node_ids : List Node → List (List ℕ)
-node_ids [] = []
-node_ids (node ∷ nodes) = line_ids node.body ++ node_ids nodes
+-- a jump leads to one of these titles
+abbrev pub IsKnown : List (List ℕ) → Use → Type 0
+IsKnown known (Title title) = IsAmong known title
+IsKnown known (Variable name) = ⊤
+IsKnown known (Declaration name) = ⊤
+IsKnown known (Function name count) = ⊤
 
--- what files stand for is accepted
-pub record AreAccepted (nodes : List Node) : Type 0 where
-  pub few : length nodes ≤ 65536
-  pub titled : All IsWellTitled nodes
-  pub titles_differ : AreDistinct (titles nodes)
-  pub known : All (IsAmong (titles nodes)) (jumps_of nodes)
-  pub ids_differ : AreDistinct (node_ids nodes)
+-- what blocks show of nodes is nothing: no line is too deep, or no group too large
+abbrev pub ShowsNothing : (Stmts → Option ℕ) → List NodeLines → Type 0
+ShowsNothing shows nodes = All (λ node. (b : Stmts) → Block node.body [] b → shows b ≡ None) nodes
 
--- a project is read exactly where it isn't too much, the files stand for the trees, and these are accepted
+-- no number of a line has a fraction or is too large, and no line has more than 16 substitutions
+pub record HasFineLines (source : SourceFile) : Type 0 where
+  pub holes : HasNoLine HasManyHoles source
+  pub fractions : HasNoLine HasFraction source
+  pub large : HasNoLine HasLarge source
+
+-- bodies are blocks, none of which is too deep or has a group that is too large, and nodes are few
+pub record AreInLimits (files : List FileLines) : Type 0 where
+  pub blocks : All AreBlocks files
+  pub shallow : ShowsNothing (deep_in 0) (nodes_of files)
+  pub small : ShowsNothing crowd_in (nodes_of files)
+  pub few_nodes : length (nodes_of files) ≤ 65536
+  pub few_variables : AreFew 65536 (names_in (variables_in (uses_from 0 files)))
+
+-- titles, names and ids are fine
+pub record AreNamedWell (signatures : List Signature) (files : List FileLines) : Type 0 where
+  pub titled : All IsWellTitled (nodes_of files)
+  pub titles_differ : AreDistinct (titles (nodes_of files))
+  pub unreserved : All (λ u. is_reserved u.is ≡ false) (uses_from 0 files)
+  pub declared_once : AreDistinct (names_in (declarations_in (uses_from 0 files)))
+  pub known : All (λ u. IsKnown (titles (nodes_of files)) u.is) (uses_from 0 files)
+  pub functions : All (λ u. is_unknown_function signatures u.is ≡ false) (uses_from 0 files)
+  pub arguments : All (λ u. has_wrong_count signatures u.is ≡ false) (uses_from 0 files)
+  pub ids_differ : AreDistinct (names_in (ids_from 0 files))
+
+-- a project is read exactly where it isn't too much, the files have these lines, and they are accepted
+pub record IsAccepted (signatures : List Signature) (sources : List SourceFile) (files : List FileLines) : Type 0 where
+  pub light : AreNotTooMuch sources
+  pub have : AllHaveLines sources files
+  pub fine : All HasFineLines sources
+  pub limits : AreInLimits files
+  pub named : AreNamedWell signatures files
+
 abbrev pub ReadExactly : Type 0
-ReadExactly = (sources : List SourceFile) (project : Project) →
-    (reading_of sources ≡ Reads project) ↔ (AreNotTooMuch sources × ProjectOf sources project × AreAccepted (nodes_of project.files))
+ReadExactly = (signatures : List Signature) (sources : List SourceFile) (files : List FileLines) →
+    (reading_of signatures sources ≡ Reads files) ↔ IsAccepted signatures sources files
 
--- a file is read exactly where it isn't too much, it stands for the tree, and this has no node too many
+-- a file that is read alone is read exactly where it isn't too much, has these lines, and they are within the limits
+pub record IsAcceptedAlone (source : SourceFile) (file : FileLines) : Type 0 where
+  pub light : length source.bytes ≤ 4194304
+  pub has : HasLines HasNoIds source file
+  pub fine : HasFineLines source
+  pub limits : AreInLimits (file ∷ [])
+
 abbrev pub FileReadExactly : Type 0
-FileReadExactly = (source : SourceFile) (file : File) →
-    (file_reading_of source ≡ Reads file) ↔ ((length source.bytes ≤ 4194304) × StandsFor HasNoIds source file × (length file.nodes ≤ 65536))
+FileReadExactly = (source : SourceFile) (file : FileLines) → (file_reading_of source ≡ Reads file) ↔ IsAcceptedAlone source file
 
 -- files stand for at most one project
 abbrev pub OneProject : Type 0
@@ -124,265 +149,7 @@ abbrev pub OneFile : Type 0
 OneFile = (source : SourceFile) (a b : File) →
     (StandsFor HasIds source a → StandsFor HasIds source b → a ≡ b) × (StandsFor HasNoIds source a → StandsFor HasNoIds source b → a ≡ b)
 
--- Places of lines.
-
--- the mode behind a line: `---` among headers begins a body, and `===` goes back to headers
-abbrev pub mode_past : Mode → List ℕ → Mode
-mode_past InHeaders text = if bytes_eq text (codes "---") then InBody else InHeaders
-mode_past InBody text = if bytes_eq text (codes "===") then InHeaders else InBody
-
-abbrev pub mode_at : Mode → List RawLine → Mode
-mode_at mode [] = mode
-mode_at mode (line ∷ lines) = mode_at (mode_past mode line.text) lines
-
--- no line is of that kind in its mode
-abbrev pub NoLine : (Mode → List ℕ → Type 0) → Mode → List RawLine → Type 0
-NoLine P mode [] = ⊤
-NoLine P mode (line ∷ lines) = (P mode line.text → ⊥) × NoLine P (mode_past mode line.text) lines
-
-abbrev pub HasNoLine : (Mode → List ℕ → Type 0) → SourceFile → Type 0
-HasNoLine P source = NoLine P InHeaders (lines_of source.bytes).lines
-
--- the first line of that kind has that number
-pub record IsFirstIn (P : Mode → List ℕ → Type 0) (mode : Mode) (lines : List RawLine) (number : ℕ) : Type 0 where
-  pub ahead : List RawLine
-  pub line : RawLine
-  pub behind : List RawLine
-  pub cut : lines ≡ ahead ++ line ∷ behind
-  pub none_ahead : NoLine P mode ahead
-  pub is : P (mode_at mode ahead) line.text
-  pub at : line.number ≡ number
-
--- the first of the files with a line of a kind, and that line: files before it have none
-pub record IsFirstOf (None : SourceFile → Type 0) (At : SourceFile → ℕ → Type 0) (sources : List SourceFile) (place : Place) : Type 0 where
-  pub before : List SourceFile
-  pub source : SourceFile
-  pub behind : List SourceFile
-  pub cut : sources ≡ before ++ source ∷ behind
-  pub none_before : All None before
-  pub file : place.file ≡ length before
-  pub line : At source place.line
-
--- the first line of that kind, in order of files and lines
-abbrev pub IsFirstLine : (Mode → List ℕ → Type 0) → List SourceFile → Place → Type 0
-IsFirstLine P = IsFirstOf (HasNoLine P) (λ source number. IsFirstIn P InHeaders (lines_of source.bytes).lines number)
-
--- the text is no item in that mode
-abbrev pub IsNothing : Mode → List ℕ → Type 0
-IsNothing mode text = (item : Item) → IsItem mode text item → ⊥
-
--- each line of each file is UTF-8, and none is too long
-abbrev pub AreReadable : List SourceFile → Type 0
-AreReadable sources = All (λ source. IsReadable source.bytes) sources
-
--- NotBuilt stands at the first line of a form that isn't read yet
-abbrev pub NotBuiltIsRight : Type 0
-NotBuiltIsRight = (sources : List SourceFile) (place : Place) →
-    (reading_of sources ≡ Refuses kind.NotBuilt place) ↔ (AreNotTooMuch sources × AreReadable sources × IsFirstLine IsNotBuilt sources place)
-
--- BadLine stands at the first line that is no item, where none is of a form that isn't read yet
-abbrev pub BadLineIsRight : Type 0
-BadLineIsRight = (sources : List SourceFile) (place : Place) →
-    (reading_of sources ≡ Refuses kind.BadLine place)
-    ↔ (AreNotTooMuch sources × AreReadable sources × All (HasNoLine IsNotBuilt) sources × IsFirstLine IsNothing sources place)
-
--- a file may begin with these items
-pub record BeginFile (items : List ItemAt) : Type 0 where
-  pub more : List ItemAt
-  pub file : File
-  pub is : IsFile HasIds (items ++ more) file
-
--- the place where items stop to be those of a file: at the first with which no file begins, or behind all of them
-pub data IsMisplacedAt (items : List ItemAt) (end number : ℕ) : Type 0 where
-  at_line : (before behind : List ItemAt) (x : ItemAt) → items ≡ before ++ x ∷ behind → BeginFile before →
-      (BeginFile (before ++ x ∷ []) → ⊥) → x.line ≡ number → IsMisplacedAt items end number
-  at_end : BeginFile items → ((file : File) → IsFile HasIds items file → ⊥) → end ≡ number → IsMisplacedAt items end number
-
--- the lines of a file have items, which are misplaced there
-pub record IsMisplacedIn (source : SourceFile) (number : ℕ) : Type 0 where
-  pub items : List ItemAt
-  pub has : IsItems InHeaders (lines_of source.bytes).lines items
-  pub at : IsMisplacedAt items (lines_of source.bytes).end number
-
--- the lines of a file have items
-abbrev pub HasItems : SourceFile → Type 0
-HasItems source = (items : List ItemAt) × IsItems InHeaders (lines_of source.bytes).lines items
-
--- a file stands for a tree
-abbrev pub IsStanding : SourceFile → Type 0
-IsStanding source = (file : File) × StandsFor HasIds source file
-
--- BadStructure stands where the items of the first file that stands for no tree stop to be those of a file
-abbrev pub BadStructureIsRight : Type 0
-BadStructureIsRight = (sources : List SourceFile) (place : Place) →
-    (reading_of sources ≡ Refuses kind.BadStructure place)
-    ↔ (AreNotTooMuch sources × AreReadable sources × All HasItems sources × IsFirstOf IsStanding IsMisplacedIn sources place)
-
--- Places in trees.
-
--- the jumps of nodes, with the names that they lead to
-abbrev pub jump_places_in : ℕ → List Stmt → List NameAt
-jump_places_in file [] = []
-jump_places_in file (Line said ∷ body) = jump_places_in file body
-jump_places_in file (Jump head name ∷ body) = (name, record { file = file; line = head.line }) ∷ jump_places_in file body
-
-abbrev pub jump_places_within : ℕ → List Node → List NameAt
-jump_places_within file [] = []
-jump_places_within file (node ∷ nodes) = jump_places_in file node.body ++ jump_places_within file nodes
-
--- the same of files, the first of which has that number
-abbrev pub jump_places : ℕ → List File → List NameAt
-jump_places n [] = []
-jump_places n (file ∷ files) = jump_places_within n file.nodes ++ jump_places (n + 1) files
-
--- the first jump to a name that isn't among the titles stands there
-pub record IsUnknownAt (known : List (List ℕ)) (jumps : List NameAt) (place : Place) : Type 0 where
-  pub before : List NameAt
-  pub name : List ℕ
-  pub behind : List NameAt
-  pub cut : jumps ≡ before ++ (name, place) ∷ behind
-  pub known_before : All (IsAmong known) (names_in before)
-  pub unknown : IsAmong known name → ⊥
-
--- files that aren't too much stand for these trees, which have no node too many and are titled well, with different titles
-pub record AreTitled (sources : List SourceFile) (project : Project) : Type 0 where
-  pub fine : AreNotTooMuch sources
-  pub stand : ProjectOf sources project
-  pub few : length (nodes_of project.files) ≤ 65536
-  pub titled : All IsWellTitled (nodes_of project.files)
-  pub titles_differ : AreDistinct (titles (nodes_of project.files))
-
--- UnknownNode stands at the first jump, of the trees that the files stand for, that has no node
-abbrev pub UnknownNodeIsRight : Type 0
-UnknownNodeIsRight = (sources : List SourceFile) (place : Place) →
-    (reading_of sources ≡ Refuses kind.UnknownNode place)
-    ↔ ((project : Project) × AreTitled sources project × IsUnknownAt (titles (nodes_of project.files)) (jump_places 0 project.files) place)
-
--- the ids of lines, and where these stand
-abbrev pub id_places_in : ℕ → List Stmt → List NameAt
-id_places_in file [] = []
-id_places_in file (Line said ∷ body) = (said.id, record { file = file; line = said.line }) ∷ id_places_in file body
-id_places_in file (Jump head name ∷ body) = id_places_in file body
-
-abbrev pub id_places_within : ℕ → List Node → List NameAt
-id_places_within file [] = []
-id_places_within file (node ∷ nodes) = id_places_in file node.body ++ id_places_within file nodes
-
-abbrev pub id_places : ℕ → List File → List NameAt
-id_places n [] = []
-id_places n (file ∷ files) = id_places_within n file.nodes ++ id_places (n + 1) files
-
--- DuplicateLineId stands at the first line, of trees in which each jump has its node, whose id an earlier one has
-abbrev pub DuplicateLineIdIsRight : Type 0
-DuplicateLineIdIsRight = (sources : List SourceFile) (place : Place) →
-    (reading_of sources ≡ Refuses kind.DuplicateLineId place)
-    ↔ ((project : Project) × AreTitled sources project × All (IsAmong (titles (nodes_of project.files))) (jumps_of (nodes_of project.files))
-    × IsAgainAt (id_places 0 project.files) place)
-
--- Titles in items.
-
--- the titles since the last `===`, the latest first
-abbrev pub titles_with : List (List ℕ) → Item → List (List ℕ)
-titles_with ts (item.Header header) = if is_title header then header.value ∷ ts else ts
-titles_with ts item.NodeEnds = []
-titles_with ts item.BodyBegins = ts
-titles_with ts (item.FileTag tag) = ts
-titles_with ts (item.Line said) = ts
-titles_with ts (item.Jump name tags) = ts
-
-abbrev pub titles_at : List (List ℕ) → List ItemAt → List (List ℕ)
-titles_at ts [] = ts
-titles_at ts (x ∷ xs) = titles_at (titles_with ts x.item) xs
-
--- behind these titles of its node, a second title, a title that is no name, and a `---` behind no title
-abbrev pub IsBadTitle : List (List ℕ) → Item → Type 0
-IsBadTitle ts (item.Header header) = (is_title header ≡ true) × (((ts ≡ []) → ⊥) ⊎ (is_name_of (chars header.value) ≡ false))
-IsBadTitle ts item.BodyBegins = ts ≡ []
-IsBadTitle ts item.NodeEnds = ⊥
-IsBadTitle ts (item.FileTag tag) = ⊥
-IsBadTitle ts (item.Line said) = ⊥
-IsBadTitle ts (item.Jump name tags) = ⊥
-
-abbrev pub NoBadTitle : List (List ℕ) → List ItemAt → Type 0
-NoBadTitle ts [] = ⊤
-NoBadTitle ts (x ∷ xs) = (IsBadTitle ts x.item → ⊥) × NoBadTitle (titles_with ts x.item) xs
-
--- the first of these stands there
-pub record IsBadTitleAt (ts : List (List ℕ)) (items : List ItemAt) (number : ℕ) : Type 0 where
-  pub before : List ItemAt
-  pub x : ItemAt
-  pub behind : List ItemAt
-  pub cut : items ≡ before ++ x ∷ behind
-  pub none_before : NoBadTitle ts before
-  pub bad : IsBadTitle (titles_at ts before) x.item
-  pub at : x.line ≡ number
-
--- the lines of a file have items, among which that is so
-pub record IsBadTitleIn (source : SourceFile) (number : ℕ) : Type 0 where
-  pub items : List ItemAt
-  pub has : IsItems InHeaders (lines_of source.bytes).lines items
-  pub at : IsBadTitleAt [] items number
-
-pub record HasFineTitles (source : SourceFile) : Type 0 where
-  pub items : List ItemAt
-  pub has : IsItems InHeaders (lines_of source.bytes).lines items
-  pub fine : NoBadTitle [] items
-
--- BadTitle stands at the first of these, where the files stand for trees with no node too many
-abbrev pub BadTitleIsRight : Type 0
-BadTitleIsRight = (sources : List SourceFile) (place : Place) →
-    (reading_of sources ≡ Refuses kind.BadTitle place)
-    ↔ (AreNotTooMuch sources × ((project : Project) × ProjectOf sources project × (length (nodes_of project.files) ≤ 65536))
-    × IsFirstOf HasFineTitles IsBadTitleIn sources place)
-
--- the headers `title` of a file, with their places
-abbrev pub titles_and : ℕ → ℕ → Item → List NameAt → List NameAt
-titles_and file line (item.Header header) later = if is_title header then (header.value, record { file = file; line = line }) ∷ later else later
-titles_and file line item.BodyBegins later = later
-titles_and file line item.NodeEnds later = later
-titles_and file line (item.FileTag tag) later = later
-titles_and file line (item.Line said) later = later
-titles_and file line (item.Jump name tags) later = later
-
-abbrev pub title_places_in : ℕ → List ItemAt → List NameAt
-title_places_in file [] = []
-title_places_in file (x ∷ xs) = titles_and file x.line x.item (title_places_in file xs)
-
--- the same of files, the first of which has that number
-abbrev pub AreTitlePlaces : ℕ → List SourceFile → List NameAt → Type 0
-AreTitlePlaces n [] places = places ≡ []
-AreTitlePlaces n (source ∷ sources) places = (items : List ItemAt) × (later : List NameAt) × IsItems InHeaders (lines_of source.bytes).lines items
-    × AreTitlePlaces (n + 1) sources later × (places ≡ title_places_in n items ++ later)
-
--- DuplicateTitle stands at the second header `title` that has the value of an earlier one, where nodes are titled well
-abbrev pub DuplicateTitleIsRight : Type 0
-DuplicateTitleIsRight = (sources : List SourceFile) (place : Place) →
-    (reading_of sources ≡ Refuses kind.DuplicateTitle place)
-    ↔ (AreNotTooMuch sources
-    × ((project : Project) × ProjectOf sources project × (length (nodes_of project.files) ≤ 65536) × All IsWellTitled (nodes_of project.files))
-    × ((places : List NameAt) × AreTitlePlaces 0 sources places × IsAgainAt places place))
-
--- the places of the `---` of nodes
-abbrev pub begins_in : ℕ → List Node → List Place
-begins_in file [] = []
-begins_in file (node ∷ nodes) = record { file = file; line = node.line } ∷ begins_in file nodes
-
-abbrev pub begins_of : ℕ → List File → List Place
-begins_of n [] = []
-begins_of n (file ∷ files) = begins_in n file.nodes ++ begins_of (n + 1) files
-
--- behind that many places
-pub record IsBehind (count : ℕ) (places : List Place) (place : Place) : Type 0 where
-  pub before : List Place
-  pub behind : List Place
-  pub cut : places ≡ before ++ place ∷ behind
-  pub many : length before ≡ count
-
--- TooMany stands at the `---` of the 65,537th node of the trees that the files stand for
-abbrev pub TooManyIsRight : Type 0
-TooManyIsRight = (sources : List SourceFile) (place : Place) →
-    (reading_of sources ≡ Refuses kind.TooMany place)
-    ↔ ((project : Project) × AreNotTooMuch sources × ProjectOf sources project × IsBehind 65536 (begins_of 0 project.files) place)
+-- Places of refusals. Each law says what stands before its kind in the order of refusals, and where the kind stands.
 
 -- the first file with which files are too much
 pub record IsTooMuchAt (sources : List SourceFile) (place : Place) : Type 0 where
@@ -397,4 +164,246 @@ pub record IsTooMuchAt (sources : List SourceFile) (place : Place) : Type 0 wher
 
 -- TooMuch stands there
 abbrev pub TooMuchIsRight : Type 0
-TooMuchIsRight = (sources : List SourceFile) (place : Place) → (reading_of sources ≡ Refuses kind.TooMuch place) ↔ IsTooMuchAt sources place
+TooMuchIsRight = (signatures : List Signature) (sources : List SourceFile) (place : Place) →
+    (reading_of signatures sources ≡ Refuses kind.TooMuch place) ↔ IsTooMuchAt sources place
+
+-- the first file that isn't clear, and what stands there in it
+pub record IsFirstOf {A : Type 0} (Clear : A → Type 0) (At : A → ℕ → Type 0) (files : List A) (place : Place) : Type 0 where
+  pub before : List A
+  pub file : A
+  pub behind : List A
+  pub cut : files ≡ before ++ file ∷ behind
+  pub clear_before : All Clear before
+  pub number : place.file ≡ length before
+  pub at : At file place.line
+
+-- the first line of that kind, in order of files and lines
+abbrev pub IsFirstLine : (Mode → List ℕ → Type 0) → List SourceFile → Place → Type 0
+IsFirstLine P = IsFirstOf (HasNoLine P) (HasFirstLine P)
+
+-- files that aren't too much, each line of which is UTF-8 and not too long
+pub record AreReadable (sources : List SourceFile) : Type 0 where
+  pub light : AreNotTooMuch sources
+  pub readable : All (λ source. IsReadable source.bytes) sources
+
+-- BadLine stands at the first line that is no item in its mode
+abbrev pub BadLineIsRight : Type 0
+BadLineIsRight = (signatures : List Signature) (sources : List SourceFile) (place : Place) →
+    (reading_of signatures sources ≡ Refuses kind.BadLine place) ↔ (AreReadable sources × IsFirstLine IsNothing sources place)
+
+-- such files, each line of which is an item
+pub record AreItems (sources : List SourceFile) : Type 0 where
+  pub read : AreReadable sources
+  pub items : All (HasNoLine IsNothing) sources
+
+-- a file stands for lines of nodes whose bodies are blocks
+abbrev pub IsStanding : SourceFile → Type 0
+IsStanding source = (file : FileLines) × HasLines HasIds source file × AreBlocks file
+
+-- BadStructure stands where the items of the first file that doesn't stand for these stop to be those of such a file
+abbrev pub BadStructureIsRight : Type 0
+BadStructureIsRight = (signatures : List Signature) (sources : List SourceFile) (place : Place) →
+    (reading_of signatures sources ≡ Refuses kind.BadStructure place) ↔ (AreItems sources × IsFirstOf IsStanding IsMisplacedIn sources place)
+
+-- files that aren't too much have these lines, whose bodies are blocks
+pub record AreLined (sources : List SourceFile) (files : List FileLines) : Type 0 where
+  pub light : AreNotTooMuch sources
+  pub have : AllHaveLines sources files
+  pub blocks : All AreBlocks files
+
+-- the first that a block shows, in order of files and nodes
+abbrev pub IsShownAt : (Stmts → Option ℕ) → List FileLines → Place → Type 0
+IsShownAt shows = IsFirstOf (λ file. ShowsNothing shows file.nodes) (λ file number. IsFirstShown shows file.nodes number)
+
+-- TooDeep stands at the first line of a statement of depth over 64
+abbrev pub TooDeepIsRight : Type 0
+TooDeepIsRight = (signatures : List Signature) (sources : List SourceFile) (place : Place) →
+    (reading_of signatures sources ≡ Refuses kind.TooDeep place)
+    ↔ ((files : List FileLines) × AreLined sources files × IsShownAt (deep_in 0) files place)
+
+-- such lines, none of which is too deep
+pub record AreShallow (sources : List SourceFile) (files : List FileLines) : Type 0 where
+  pub lined : AreLined sources files
+  pub shallow : ShowsNothing (deep_in 0) (nodes_of files)
+
+-- the places of the `---` of nodes
+abbrev pub begins_in : ℕ → List NodeLines → List Place
+begins_in file [] = []
+begins_in file (node ∷ nodes) = record { file = file; line = node.line } ∷ begins_in file nodes
+
+-- the same of files, the first of which has that number
+abbrev pub begins_from : ℕ → List FileLines → List Place
+begins_from n [] = []
+begins_from n (file ∷ files) = begins_in n file.nodes ++ begins_from (n + 1) files
+
+-- behind that many places
+pub record IsBehind (count : ℕ) (places : List Place) (place : Place) : Type 0 where
+  pub before : List Place
+  pub behind : List Place
+  pub cut : places ≡ before ++ place ∷ behind
+  pub many : length before ≡ count
+
+-- so many different names
+pub record AreSoMany (count : ℕ) (names : List (List ℕ)) : Type 0 where
+  pub known : List (List ℕ)
+  pub differ : AreDistinct known
+  pub many : length known ≡ count
+  pub all : All (IsAmong known) names
+  pub used : All (IsAmong names) known
+
+-- a new name behind that many others
+pub record IsNewBehind (count : ℕ) (xs : List NameAt) (place : Place) : Type 0 where
+  pub before : List NameAt
+  pub name : List ℕ
+  pub behind : List NameAt
+  pub cut : xs ≡ before ++ (name, place) ∷ behind
+  pub many : AreSoMany count (names_in before)
+  pub new : IsAmong (names_in before) name → ⊥
+
+-- the first line with more than 16 substitutions, the first 65th option of a group, the `---` of the 65,537th node, and
+-- the first use of the 65,537th variable
+pub data IsTooManyAt (sources : List SourceFile) (files : List FileLines) (place : Place) : Type 0 where
+  substitutions : IsFirstLine HasManyHoles sources place → IsTooManyAt sources files place
+  options : IsShownAt crowd_in files place → IsTooManyAt sources files place
+  nodes : IsBehind 65536 (begins_from 0 files) place → IsTooManyAt sources files place
+  variables : IsNewBehind 65536 (variables_in (uses_from 0 files)) place → IsTooManyAt sources files place
+
+-- the earliest of the places of a kind
+abbrev pub IsEarliest : (Place → Type 0) → Place → Type 0
+IsEarliest At place = At place × ((other : Place) → At other → is_before other place ≡ false)
+
+-- TooMany stands at the earliest of these
+abbrev pub TooManyIsRight : Type 0
+TooManyIsRight = (signatures : List Signature) (sources : List SourceFile) (place : Place) →
+    (reading_of signatures sources ≡ Refuses kind.TooMany place)
+    ↔ ((files : List FileLines) × AreShallow sources files × IsEarliest (IsTooManyAt sources files) place)
+
+-- such lines, with none too many of a kind
+pub record AreFewEnough (sources : List SourceFile) (files : List FileLines) : Type 0 where
+  pub shallow : AreShallow sources files
+  pub holes : All (HasNoLine HasManyHoles) sources
+  pub small : ShowsNothing crowd_in (nodes_of files)
+  pub few_nodes : length (nodes_of files) ≤ 65536
+  pub few_variables : AreFew 65536 (names_in (variables_in (uses_from 0 files)))
+
+-- Fraction stands at the first line with a number that has a fraction
+abbrev pub FractionIsRight : Type 0
+FractionIsRight = (signatures : List Signature) (sources : List SourceFile) (place : Place) →
+    (reading_of signatures sources ≡ Refuses kind.Fraction place)
+    ↔ ((files : List FileLines) × AreFewEnough sources files × IsFirstLine HasFraction sources place)
+
+-- such lines, without fractions
+pub record AreWhole (sources : List SourceFile) (files : List FileLines) : Type 0 where
+  pub few : AreFewEnough sources files
+  pub fractions : All (HasNoLine HasFraction) sources
+
+-- NumberTooLarge stands at the first line with a number above 9223372036854775807
+abbrev pub NumberTooLargeIsRight : Type 0
+NumberTooLargeIsRight = (signatures : List Signature) (sources : List SourceFile) (place : Place) →
+    (reading_of signatures sources ≡ Refuses kind.NumberTooLarge place)
+    ↔ ((files : List FileLines) × AreWhole sources files × IsFirstLine HasLarge sources place)
+
+-- such lines, whose numbers can be kept
+pub record AreKept (sources : List SourceFile) (files : List FileLines) : Type 0 where
+  pub whole : AreWhole sources files
+  pub large : All (HasNoLine HasLarge) sources
+
+-- BadTitle stands at the first second title of a node, title that is no name, or `---` behind no title
+abbrev pub BadTitleIsRight : Type 0
+BadTitleIsRight = (signatures : List Signature) (sources : List SourceFile) (place : Place) →
+    (reading_of signatures sources ≡ Refuses kind.BadTitle place)
+    ↔ ((files : List FileLines) × AreKept sources files × IsFirstOf HasFineTitles IsBadTitleIn sources place)
+
+-- such lines, with one title for each node, which is a name
+pub record AreTitled (sources : List SourceFile) (files : List FileLines) : Type 0 where
+  pub kept : AreKept sources files
+  pub titled : All IsWellTitled (nodes_of files)
+
+-- the headers `title` of files, with their places, where the first of the files has that number
+abbrev pub AreTitlePlaces : ℕ → List SourceFile → List NameAt → Type 0
+AreTitlePlaces n [] places = places ≡ []
+AreTitlePlaces n (source ∷ sources) places = (items : List ItemAt) × (later : List NameAt) × IsItems InHeaders (lines_of source.bytes).lines items
+    × AreTitlePlaces (n + 1) sources later × (places ≡ titles_in n (header_titles items) ++ later)
+
+-- DuplicateTitle stands at the first header `title` that has the value of an earlier one
+abbrev pub DuplicateTitleIsRight : Type 0
+DuplicateTitleIsRight = (signatures : List Signature) (sources : List SourceFile) (place : Place) →
+    (reading_of signatures sources ≡ Refuses kind.DuplicateTitle place)
+    ↔ ((files : List FileLines) × AreTitled sources files × ((places : List NameAt) × AreTitlePlaces 0 sources places × IsAgainAt places place))
+
+-- such lines, with different titles
+pub record AreTitledApart (sources : List SourceFile) (files : List FileLines) : Type 0 where
+  pub are : AreTitled sources files
+  pub titles_differ : AreDistinct (titles (nodes_of files))
+
+-- the first use that breaks a rule
+pub record IsFirstAgainst (Rule : Use → Type 0) (uses : List UseAt) (place : Place) : Type 0 where
+  pub before : List UseAt
+  pub u : UseAt
+  pub behind : List UseAt
+  pub cut : uses ≡ before ++ u ∷ behind
+  pub kept_before : All (λ u. Rule u.is) before
+  pub broken : Rule u.is → ⊥
+  pub at : u.place ≡ place
+
+-- ReservedName stands at the first use of a variable whose name begins with `$Yarn.Internal.`
+abbrev pub ReservedNameIsRight : Type 0
+ReservedNameIsRight = (signatures : List Signature) (sources : List SourceFile) (place : Place) →
+    (reading_of signatures sources ≡ Refuses kind.ReservedName place)
+    ↔ ((files : List FileLines) × AreTitledApart sources files × IsFirstAgainst (λ u. is_reserved u ≡ false) (uses_from 0 files) place)
+
+-- such lines, without these variables
+pub record AreUnreserved (sources : List SourceFile) (files : List FileLines) : Type 0 where
+  pub titled : AreTitledApart sources files
+  pub unreserved : All (λ u. is_reserved u.is ≡ false) (uses_from 0 files)
+
+-- DuplicateDeclare stands at the first declaration of a variable that an earlier one declares
+abbrev pub DuplicateDeclareIsRight : Type 0
+DuplicateDeclareIsRight = (signatures : List Signature) (sources : List SourceFile) (place : Place) →
+    (reading_of signatures sources ≡ Refuses kind.DuplicateDeclare place)
+    ↔ ((files : List FileLines) × AreUnreserved sources files × IsAgainAt (declarations_in (uses_from 0 files)) place)
+
+-- such lines, which declare each variable once
+pub record AreDeclaredOnce (sources : List SourceFile) (files : List FileLines) : Type 0 where
+  pub unreserved : AreUnreserved sources files
+  pub declared_once : AreDistinct (names_in (declarations_in (uses_from 0 files)))
+
+-- UnknownNode stands at the first jump to a title that no node has
+abbrev pub UnknownNodeIsRight : Type 0
+UnknownNodeIsRight = (signatures : List Signature) (sources : List SourceFile) (place : Place) →
+    (reading_of signatures sources ≡ Refuses kind.UnknownNode place)
+    ↔ ((files : List FileLines) × AreDeclaredOnce sources files × IsFirstAgainst (IsKnown (titles (nodes_of files))) (uses_from 0 files) place)
+
+-- such lines, with a node for each jump
+pub record HaveNodes (sources : List SourceFile) (files : List FileLines) : Type 0 where
+  pub declared : AreDeclaredOnce sources files
+  pub known : All (λ u. IsKnown (titles (nodes_of files)) u.is) (uses_from 0 files)
+
+-- UnknownFunction stands at the first call of a function that is no builtin and has no signature
+abbrev pub UnknownFunctionIsRight : Type 0
+UnknownFunctionIsRight = (signatures : List Signature) (sources : List SourceFile) (place : Place) →
+    (reading_of signatures sources ≡ Refuses kind.UnknownFunction place)
+    ↔ ((files : List FileLines) × HaveNodes sources files × IsFirstAgainst (λ u. is_unknown_function signatures u ≡ false) (uses_from 0 files) place)
+
+-- such lines, with a function for each call
+pub record HaveFunctions (signatures : List Signature) (sources : List SourceFile) (files : List FileLines) : Type 0 where
+  pub have : HaveNodes sources files
+  pub functions : All (λ u. is_unknown_function signatures u.is ≡ false) (uses_from 0 files)
+
+-- WrongArguments stands at the first call with another number of arguments than its function has
+abbrev pub WrongArgumentsIsRight : Type 0
+WrongArgumentsIsRight = (signatures : List Signature) (sources : List SourceFile) (place : Place) →
+    (reading_of signatures sources ≡ Refuses kind.WrongArguments place)
+    ↔ ((files : List FileLines) × HaveFunctions signatures sources files
+    × IsFirstAgainst (λ u. has_wrong_count signatures u ≡ false) (uses_from 0 files) place)
+
+-- such lines, whose calls have as many arguments as their functions
+pub record HaveArguments (signatures : List Signature) (sources : List SourceFile) (files : List FileLines) : Type 0 where
+  pub have : HaveFunctions signatures sources files
+  pub arguments : All (λ u. has_wrong_count signatures u.is ≡ false) (uses_from 0 files)
+
+-- DuplicateLineId stands at the first line or option whose id an earlier one has
+abbrev pub DuplicateLineIdIsRight : Type 0
+DuplicateLineIdIsRight = (signatures : List Signature) (sources : List SourceFile) (place : Place) →
+    (reading_of signatures sources ≡ Refuses kind.DuplicateLineId place)
+    ↔ ((files : List FileLines) × HaveArguments signatures sources files × IsAgainAt (ids_from 0 files) place)

@@ -7,7 +7,7 @@ use Rattle.std.specs.Ordering.{nat_cmp}
 use Rattle.yarn_base.specs.declared.Place.{Place}
 use Rattle.yarn_tree.specs.declared.names.Names.{Names}
 use Rattle.yarn_tree.specs.declared.names.Seen.{Seen}
-use Rattle.yarn_tree.specs.Places.{or_later}
+use Rattle.yarn_nodes.specs.Places.{or_later}
 
 abbrev pub no_name : List ℕ → Bool
 no_name name = false

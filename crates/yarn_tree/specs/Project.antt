@@ -1,101 +1,56 @@
--- The items of a file's lines, and the file and the project that they stand for (docs/language.md, Nodes).
-use Rattle.std.specs.Prelude.{◌≡◌, ◌≤◌, ℕ, List, [], ◌∷◌, ◌++◌, length, All, IsUtf8, ⊤, if◌then◌else◌, codes}
-use Rattle.std.specs.Str.{bytes_eq}
+-- The trees that files stand for (docs/language.md, Nodes and Structure of a body).
+use Rattle.std.specs.Prelude.{◌≡◌, List, [], ◌∷◌, ⊤}
 use Rattle.yarn_base.specs.declared.SourceFile.{SourceFile}
-use Rattle.yarn_lines.specs.declared.line.RawLine.{RawLine}
-use Rattle.yarn_lines.specs.Lines.{pieces_in, lines_of}
-use Rattle.yarn_items.specs.declared.item.Mode.{Mode}
-use Rattle.yarn_items.specs.declared.item.Mode.TheVariants.{InHeaders, InBody}
-use Rattle.yarn_items.specs.declared.item.Header.{Header}
-use Rattle.yarn_items.specs.declared.item.Item.{Item}
-use Rattle.yarn_items.specs.declared.item.Item.TheVariants as item
-use Rattle.yarn_items.specs.Item.{IsItem}
+use Rattle.yarn_blocks.specs.Block.{Block}
+use Rattle.yarn_blocks.specs.View.{stmts_of}
+use Rattle.yarn_nodes.specs.declared.node.FileLines.{FileLines}
+use Rattle.yarn_nodes.specs.declared.node.NodeLines.{NodeLines}
+use Rattle.yarn_nodes.specs.Ids.{Naming, HasIds}
+use Rattle.yarn_nodes.specs.Lines.{HasLines}
 use Rattle.yarn_tree.specs.declared.tree.Node.{Node}
 use Rattle.yarn_tree.specs.declared.tree.File.{File}
 use Rattle.yarn_tree.specs.declared.tree.Project.{Project}
-use Rattle.yarn_tree.specs.Body.{ItemAt, Block, Naming, HasIds}
 
--- the mode behind an item: `---` begins a body, and `===` goes back to headers
-abbrev pub next_mode : Mode → Item → Mode
-next_mode mode item.BodyBegins = InBody
-next_mode mode item.NodeEnds = InHeaders
-next_mode mode (item.FileTag t) = mode
-next_mode mode (item.Header header) = mode
-next_mode mode (item.Line said) = mode
-next_mode mode (item.Jump name ts) = mode
+-- the node whose lines these are: the lines of its body are a block that stands for its statements
+pub record IsNodeOf (lines : NodeLines) (node : Node) : Type 0 where
+  pub title : node.title ≡ lines.title
+  pub headers : node.headers ≡ lines.headers
+  pub line : node.line ≡ lines.line
+  pub end_line : node.end_line ≡ lines.end_line
+  pub body : Block lines.body [] (stmts_of node.body)
 
--- each line has its item by its text, in the mode behind the item before it
-abbrev pub IsItems : Mode → List RawLine → List ItemAt → Type 0
-IsItems mode [] [] = ⊤
-IsItems mode [] (x ∷ items) = ⊥
-IsItems mode (line ∷ lines) [] = ⊥
-IsItems mode (line ∷ lines) (x ∷ items) =
-    (x.line ≡ line.number) × IsItem mode line.text x.item × IsItems (next_mode mode x.item) lines items
+abbrev pub AreNodesOf : List NodeLines → List Node → Type 0
+AreNodesOf [] [] = ⊤
+AreNodesOf [] (node ∷ nodes) = ⊥
+AreNodesOf (lines ∷ rest) [] = ⊥
+AreNodesOf (lines ∷ rest) (node ∷ nodes) = IsNodeOf lines node × AreNodesOf rest nodes
 
--- only hashtags of the file
-pub data AreTags : List ItemAt → List (List ℕ) → Type 0 where
-  no_tag : AreTags [] []
-  next_tag : {x : ItemAt} {xs : List ItemAt} {t : List ℕ} {ts : List (List ℕ)} →
-      x.item ≡ item.FileTag t → AreTags xs ts → AreTags (x ∷ xs) (t ∷ ts)
+pub record IsFileOf (lines : FileLines) (file : File) : Type 0 where
+  pub name : file.name ≡ lines.name
+  pub tags : file.tags ≡ lines.tags
+  pub nodes : AreNodesOf lines.nodes file.nodes
 
--- only headers
-pub data AreHeaders : List ItemAt → List Header → Type 0 where
-  no_header : AreHeaders [] []
-  next_header : {x : ItemAt} {xs : List ItemAt} {h : Header} {hs : List Header} →
-      x.item ≡ item.Header h → AreHeaders xs hs → AreHeaders (x ∷ xs) (h ∷ hs)
-
--- the value of the first header `title`, and nothing where there is none
-abbrev pub title_in : List Header → List ℕ
-title_in [] = []
-title_in (h ∷ hs) = if bytes_eq h.key (codes "title") then h.value else title_in hs
-
--- headers, `---`, a body and `===`
-pub record IsNode (Ids : Naming) (items : List ItemAt) (node : Node) : Type 0 where
-  pub headers : List ItemAt
-  pub begins : ItemAt
-  pub inner : List ItemAt
-  pub ends : ItemAt
-  pub cut : items ≡ headers ++ (begins ∷ (inner ++ ends ∷ []))
-  pub headed : AreHeaders headers node.headers
-  pub title : node.title ≡ title_in node.headers
-  pub begun : (begins.item ≡ item.BodyBegins) × (node.line ≡ begins.line)
-  pub body : Block inner node.body
-  pub ids : Ids node.title node.body
-  pub ended : (ends.item ≡ item.NodeEnds) × (node.end_line ≡ ends.line)
-
--- one node after the other
-pub data AreNodes (Ids : Naming) : List ItemAt → List Node → Type 0 where
-  no_node : AreNodes Ids [] []
-  first_node : {items rest : List ItemAt} {node : Node} {nodes : List Node} →
-      IsNode Ids items node → AreNodes Ids rest nodes → AreNodes Ids (items ++ rest) (node ∷ nodes)
-
--- hashtags of the file, and then nodes
-pub record IsFile (Ids : Naming) (items : List ItemAt) (file : File) : Type 0 where
-  pub front : List ItemAt
-  pub rest : List ItemAt
-  pub cut : items ≡ front ++ rest
-  pub tagged : AreTags front file.tags
-  pub are_nodes : AreNodes Ids rest file.nodes
-
--- no line is other than UTF-8, and none has more than 65,536 bytes
-abbrev pub IsReadable : List ℕ → Type 0
-IsReadable bytes = All IsUtf8 (pieces_in bytes) × All (λ piece. length piece ≤ 65536) (pieces_in bytes)
+abbrev pub AreFilesOf : List FileLines → List File → Type 0
+AreFilesOf [] [] = ⊤
+AreFilesOf [] (file ∷ files) = ⊥
+AreFilesOf (lines ∷ rest) [] = ⊥
+AreFilesOf (lines ∷ rest) (file ∷ files) = IsFileOf lines file × AreFilesOf rest files
 
 -- the bytes of a file stand for the tree
 pub record StandsFor (Ids : Naming) (source : SourceFile) (file : File) : Type 0 where
-  pub named : file.name ≡ source.name
-  pub items : List ItemAt
-  pub readable : IsReadable source.bytes
-  pub has_items : IsItems InHeaders (lines_of source.bytes).lines items
-  pub is_file : IsFile Ids items file
+  pub lines : FileLines
+  pub has : HasLines Ids source lines
+  pub is : IsFileOf lines file
 
--- each file stands for its tree
-abbrev pub AllStandFor : List SourceFile → List File → Type 0
-AllStandFor [] [] = ⊤
-AllStandFor [] (file ∷ files) = ⊥
-AllStandFor (source ∷ sources) [] = ⊥
-AllStandFor (source ∷ sources) (file ∷ files) = StandsFor HasIds source file × AllStandFor sources files
+-- each file has its lines
+abbrev pub AllHaveLines : List SourceFile → List FileLines → Type 0
+AllHaveLines [] [] = ⊤
+AllHaveLines [] (lines ∷ rest) = ⊥
+AllHaveLines (source ∷ sources) [] = ⊥
+AllHaveLines (source ∷ sources) (lines ∷ rest) = HasLines HasIds source lines × AllHaveLines sources rest
 
 -- the files stand for the project
-abbrev pub ProjectOf : List SourceFile → Project → Type 0
-ProjectOf sources project = AllStandFor sources project.files
+pub record ProjectOf (sources : List SourceFile) (project : Project) : Type 0 where
+  pub lines : List FileLines
+  pub have : AllHaveLines sources lines
+  pub are : AreFilesOf lines project.files

@@ -5,7 +5,8 @@ use Rattle.yarn_lines.specs.declared.line.Lines.{Lines}
 use Rattle.yarn_tree.specs.declared.refusal.RefusalKind.TheVariants.{BadUtf8, LineTooLong}
 use Rattle.yarn_tree.specs.declared.split.Splitter.{Splitter}
 use Rattle.yarn_tree.specs.declared.stages.SplitFile.{SplitFile}
-use Rattle.yarn_tree.specs.Places.{or_later, first_line}
+use Rattle.yarn_nodes.specs.Places.{or_later}
+use Rattle.yarn_tree.specs.Places.{first_line}
 use Rattle.yarn_tree.specs.Reading.{Reading, Reads, unless}
 use Rattle.yarn_tree.specs.Splits.{bad_in, long_in, splits_from}
 

@@ -1,16 +1,17 @@
-//! The refusals that are found once all lines are read.
-ghost use Rattle.std.specs.Prelude.{◌≡◌, slice_get, IfOk, OnOk};
-ghost use Rattle.yarn_tree.specs.Checks.{noted_in, extra_node, begun_at, titles_in, titles_seen, ids_in, ids_within, ids_seen, own_in, is_own, own_within, own_of};
+//! The refusals that are found in the lines of nodes: nodes, titles and ids.
+ghost use Rattle.std.specs.Prelude.{◌≡◌, [], slice_get, IfOk, OnOk};
+ghost use Rattle.std.specs.List.{list_any};
+ghost use Rattle.yarn_items.specs.Text.{is_id};
+ghost use Rattle.yarn_nodes.specs.Entries.{said_by};
+ghost use Rattle.yarn_tree.specs.Checks.{and_id, noted_in, extra_node, begun_at, titles_in, titles_seen, ids_in, ids_within, ids_seen, has_own, own_in, is_own, own_within, own_of};
 ghost use Rattle.yarn_tree.specs.Names.{sees_all, sight_of};
 ghost use Rattle.yarn_tree.specs.Places.{first_place};
 
-use crate::draft::Titled;
-use crate::ids::has_id_tag;
 use crate::names::Seen;
-use crate::stages::{FileRead, Note};
-use crate::{Node, Stmt};
 use std::alloc::Global;
-use yarn_base::{Memory, Place};
+use yarn_base::{Memory, Place, Text};
+use yarn_blocks::{Entry, Simple, What};
+use yarn_nodes::{FileRead, NodeLines, Note, Titled};
 
 const MOST_NODES: usize = 65536;
 
@@ -21,12 +22,22 @@ pub(crate) fn first_noted(note: Note, reads: &[FileRead]) -> Option<Place>
     ensures { result ≡ first_place (noted_in note) reads.now }
 {
     for read in reads {
-        let place = read.place_of(note);
+        let place = noted_of(note, read);
         if place.is_some() {
             return place;
         }
     }
     None
+}
+
+fn noted_of(note: Note, read: &FileRead) -> Option<Place>
+    ensures { result ≡ noted_in note read.now }
+{
+    let line = read.notes.line_of(note)?;
+    Some(Place {
+        file: read.number,
+        line,
+    })
 }
 
 /// The `---` of the first node that is one too many.
@@ -59,7 +70,6 @@ fn node_behind(before: usize, read: &FileRead) -> Option<Place>
 }
 
 /// The titles of the files, and the first that comes again.
-
 pub(crate) fn see_titles<'a>(alloc: Global, reads: &'a [FileRead]) -> Result<Seen<'a>, Memory>
     ensures { IfOk result (λ seen. sight_of seen ≡ titles_seen reads.now) }
 {
@@ -95,38 +105,63 @@ pub(crate) fn has_own_ids(reads: &[FileRead]) -> bool
     false
 }
 
-fn has_own_within(nodes: &[Node]) -> bool
+fn has_own_within(nodes: &[NodeLines]) -> bool
     ensures { result ≡ own_within nodes.now }
 {
     for node in nodes {
-        if has_own(node) {
+        if may_be_own(node) {
             return true;
         }
     }
     false
 }
 
-fn has_own(node: &Node) -> bool
+fn may_be_own(node: &NodeLines) -> bool
     ensures { result ≡ is_own node.now }
 {
     node.body.len() > MOST_COUNTED || has_own_in(node.body.as_slice())
 }
 
-fn has_own_in(body: &[Stmt]) -> bool
+fn has_own_in(body: &[Entry]) -> bool
     ensures { result ≡ own_in body.now }
 {
-    for statement in body {
-        if let Stmt::Line(said) = statement
-            && has_id_tag(said.tags.as_slice())
-        {
+    for entry in body {
+        if is_named(&entry.what) {
             return true;
         }
     }
     false
 }
 
-/// The place of the first id that an earlier line has.
+// Whether the line has a hashtag that is an id.
+fn is_named(what: &What) -> bool
+    ensures { result ≡ has_own (said_by what.now) }
+{
+    match what {
+        What::Statement(Simple::Line(text)) => has_id_tag(text.tags.as_slice()),
+        What::Offer(text, _) => has_id_tag(text.tags.as_slice()),
+        _ => false,
+    }
+}
 
+fn has_id_tag(tags: &[Text]) -> bool
+    ensures { result ≡ list_any is_id tags.now }
+{
+    for tag in tags {
+        if is_id_tag(tag.as_str()) {
+            return true;
+        }
+    }
+    false
+}
+
+fn is_id_tag(tag: &str) -> bool
+    ensures { result ≡ is_id tag.now }
+{
+    tag.as_bytes().starts_with(b"line:")
+}
+
+/// The place of the first id that an earlier line has.
 pub(crate) fn second_id(alloc: Global, reads: &[FileRead]) -> Result<Option<Place>, Memory>
     ensures { IfOk result (λ again. again ≡ (ids_seen reads.now).again) }
 {
@@ -137,7 +172,7 @@ pub(crate) fn second_id(alloc: Global, reads: &[FileRead]) -> Result<Option<Plac
     Ok(seen.again)
 }
 
-fn see_ids_within<'a>(seen: &mut Seen<'a>, file: u32, nodes: &'a [Node]) -> Result<(), Memory>
+fn see_ids_within<'a>(seen: &mut Seen<'a>, file: u32, nodes: &'a [NodeLines]) -> Result<(), Memory>
     ensures { OnOk result (sight_of seen.new ≡ sees_all (sight_of seen.old) (ids_within file nodes.now)) }
 {
     for node in nodes {
@@ -146,17 +181,25 @@ fn see_ids_within<'a>(seen: &mut Seen<'a>, file: u32, nodes: &'a [Node]) -> Resu
     Ok(())
 }
 
-fn see_ids_in<'a>(seen: &mut Seen<'a>, file: u32, body: &'a [Stmt]) -> Result<(), Memory>
+fn see_ids_in<'a>(seen: &mut Seen<'a>, file: u32, body: &'a [Entry]) -> Result<(), Memory>
     ensures { OnOk result (sight_of seen.new ≡ sees_all (sight_of seen.old) (ids_in file body.now)) }
 {
-    for statement in body {
-        if let Stmt::Line(said) = statement {
-            let place = Place {
-                file,
-                line: said.line,
-            };
-            seen.see(said.id.as_str(), place)?;
-        }
+    for entry in body {
+        let place = Place {
+            file,
+            line: entry.line,
+        };
+        see_id(seen, place, &entry.what)?;
     }
     Ok(())
+}
+
+fn see_id<'a>(seen: &mut Seen<'a>, place: Place, what: &'a What) -> Result<(), Memory>
+    ensures { OnOk result (sight_of seen.new ≡ sees_all (sight_of seen.old) (and_id (said_by what.now) place [])) }
+{
+    match what {
+        What::Statement(Simple::Line(text)) => seen.see(text.id.as_str(), place),
+        What::Offer(text, _) => seen.see(text.id.as_str(), place),
+        _ => Ok(()),
+    }
 }

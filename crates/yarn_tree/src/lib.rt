@@ -2,28 +2,26 @@
 #![tactic(auto)]
 
 mod checks;
-mod draft;
-mod ids;
-mod jumps;
+mod end;
+mod excess;
+mod functions;
+mod grow;
 pub mod laws;
+mod misuse;
 mod names;
-mod print;
-mod print_laws;
+mod order;
 mod read;
-mod reader;
 mod refusal;
 mod size;
 mod split;
 mod stages;
-mod structure;
 mod tree;
+mod uses;
+mod variables;
 
-pub use print::print_file;
-pub use print_laws::{printed_stands, prints_the_same};
+pub use end::text_end;
 pub use read::{read_file, read_project};
 pub use refusal::{ProjectFault, Refusal, RefusalKind};
-pub use tree::{File, Head, LineText, Node, Project, Stmt};
+pub use tree::{File, Node, Project};
+pub use yarn_blocks::{Clause, ElseClause, Head, LineText, OptionItem, Stmt};
 pub use yarn_items::Header;
-
-#[cfg(test)]
-mod print_tests;

@@ -4,7 +4,7 @@ ghost use Rattle.yarn_base.specs.declared.SourceFile.{SourceFile as SourceOf};
 ghost use Rattle.yarn_tree.specs.Reading.{Answers, IsFault, sources_split, source_split};
 ghost use Rattle.yarn_tree.specs.Splits.{AreFine, IsSmall};
 
-use crate::read::refused;
+use crate::order::refused;
 use crate::stages::SplitFile;
 use crate::{ProjectFault, RefusalKind};
 use std::alloc::Global;

@@ -1,7 +1,7 @@
 use Rattle.std.proofs.Common.{◌+◌, ap, ◌∙◌}
 use Rattle.std.proofs.lemmas.List.{take_rest}
 use Rattle.yarn_items.specs.Text.{trimmed}
-use Rattle.yarn_items.proofs.Utf8Lemmas.{value-utf8}
+use Rattle.yarn_items.proofs.HeadingLemmas.{value-utf8}
 use Rattle.yarn_items.proofs.heading.read_header.Goals as goal
 
 pub read_header_with-requires : goal.read_header_with-requires

@@ -3,6 +3,6 @@ use Rattle.yarn_tree.specs.Checks.{ids_in}
 use Rattle.yarn_tree.specs.Names.{sees_all, sight_of}
 use Rattle.yarn_tree.proofs.checks.see_ids_in.Given as goal
 
-abbrev pub invariant-loop-statement : goal.invariant-loop-statement
-invariant-loop-statement l =
-    sees_all (sight_of l.seen) (ids_in l.file (drop l.statement-index l.body)) ≡ sees_all (sight_of l.fn.seen) (ids_in l.file l.body)
+abbrev pub invariant-loop-entry : goal.invariant-loop-entry
+invariant-loop-entry l =
+    sees_all (sight_of l.seen) (ids_in l.file (drop l.entry-index l.body)) ≡ sees_all (sight_of l.fn.seen) (ids_in l.file l.body)

@@ -1,5 +1,6 @@
 use Rattle.yarn_tree.proofs.TitleLaws.{bad_title}
+use Rattle.yarn_tree.proofs.NodeLaws.{node_laws}
 use Rattle.yarn_tree.proofs.laws.bad_title_is_right.Goals as goal
 
 pub returns : goal.returns
-returns c = bad_title c.items_are_found.ensures
+returns c = bad_title (node_laws c.items_are_found.ensures)

@@ -1,0 +1,5 @@
+-- The definitions that the contracts cite.
+pub mod Answer
+pub mod Next
+pub mod Scan
+pub mod Taking

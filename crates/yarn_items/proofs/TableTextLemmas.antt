@@ -1,4 +1,0 @@
--- A text without a `\` is what string tables have of it.
-use Rattle.yarn_items.proofs.CutLemmas.{unescaped-same}
-
-pub ruleset table_texts = (unescaped-same)

@@ -1,0 +1,13 @@
+pub mod EntryLemmas
+pub mod FileLemmas
+pub mod FoundLemmas
+pub mod LinesLemmas
+pub mod NotedLemmas
+pub mod PlaceLemmas
+pub mod ReaderLemmas
+pub mod ShownLemmas
+pub mod TitleLemmas
+pub mod VerdictLemmas
+pub mod ViableLemmas
+pub mod ShallowLemmas
+pub mod CountedLemmas

@@ -1,0 +1,12 @@
+pub mod Places
+pub mod Entries
+pub mod Ids
+pub mod Nodes
+pub mod Structure
+pub mod Titles
+pub mod Finds
+pub mod Reader
+pub mod Lines
+pub mod Noted
+pub mod Reading
+pub mod Laws

@@ -1,0 +1,4 @@
+pub mod Print
+pub mod Pieces
+pub mod Facts
+pub mod PrintLaws

@@ -1,6 +1,0 @@
-use Rattle.std.proofs.Common.{◌≡◌, ◌+◌, drop}
-use Rattle.yarn_tree.specs.Print.{plain_length}
-use Rattle.yarn_tree.proofs.print.plain_length_in.Given as goal
-
-abbrev pub invariant-loop-at : goal.invariant-loop-at
-invariant-loop-at l = plain_length l.bytes ≡ l.at + plain_length (drop l.at l.bytes)

@@ -1,5 +1,0 @@
-use Rattle.yarn_tree.proofs.PrintFiles.{prints_the_same_law}
-use Rattle.yarn_tree.proofs.print_laws.prints_the_same.Goals as goal
-
-pub returns : goal.returns
-returns c = prints_the_same_law
