@@ -32,3 +32,11 @@ limit_in (Some word) = number_in 1 1000000000 word
 -- the most events of the run
 abbrev pub limit_of : Command → ℕ
 limit_of command = or_default 100000 (limit_in (value_of (codes "limit") command.pairs))
+
+-- the file with the variables to begin with
+abbrev pub vars_name_of : Command → Option (List ℕ)
+vars_name_of command = value_of (codes "vars") command.pairs
+
+-- the file to which the variables are written
+abbrev pub save_vars_of : Command → Option (List ℕ)
+save_vars_of command = value_of (codes "save-vars") command.pairs

@@ -24,7 +24,9 @@ pub record Row : Type 0 where
 abbrev pub rows_of : CommandKind → List Row
 rows_of Play =
     record { name = codes "start"; form = Name }
-    ∷ record { name = codes "limit"; form = Number 1 1000000000 } ∷ []
+    ∷ record { name = codes "limit"; form = Number 1 1000000000 }
+    ∷ record { name = codes "vars"; form = Name }
+    ∷ record { name = codes "save-vars"; form = Name } ∷ []
 rows_of Format = []
 rows_of Check = []
 

@@ -2,7 +2,9 @@
 use Rattle.std.specs.Prelude.{ℕ, List, [], ◌∷◌, ◌++◌, slice_get, codes}
 use Rattle.std.specs.Fmt.{decimal}
 use Rattle.yarn_cli.specs.Command.{or_default}
-use Rattle.yarn_player.specs.Meaning.{Fault}
+use Rattle.yarn_value.specs.declared.fault.RunFault.{RunFault}
+use Rattle.yarn_value.specs.declared.fault.RunFault.TheVariants as run
+use Rattle.yarn_code.specs.Moments.{FaultPlace}
 use Rattle.yarn_tree.specs.declared.refusal.RefusalKind.{RefusalKind}
 use Rattle.yarn_tree.specs.declared.refusal.RefusalKind.TheVariants.{TooMuch, BadUtf8, LineTooLong, BadLine, BadStructure, TooDeep, TooMany, Fraction, NumberTooLarge, BadTitle, DuplicateTitle, ReservedName, DuplicateDeclare, UnknownNode, UnknownFunction, WrongArguments, DuplicateLineId}
 
@@ -36,18 +38,41 @@ no_typing = codes "NoTyping"
 abbrev pub many_typings : List ℕ → List ℕ
 many_typings name = codes "ManyTypings " ++ name
 
--- what this version doesn't play
-abbrev pub not_built : List ℕ
-not_built = codes "NotBuilt"
-
 -- `FILE:LINE: NAME`
 abbrev pub refused : List ℕ → List ℕ → ℕ → List ℕ
 refused file name line = file ++ (codes ":" ++ (decimal line ++ (codes ": " ++ (name ++ 10 ∷ []))))
 
--- `FILE:LINE: NODE: UnknownNode NAME`
-abbrev pub faulted : List ℕ → Fault → List ℕ
+-- the name of a fault, with its value
+abbrev pub fault_text : RunFault → List ℕ
+fault_text run.Overflow = codes "Overflow"
+fault_text run.DivideByZero = codes "DivideByZero"
+fault_text run.Inexact = codes "Inexact"
+fault_text run.TextTooLong = codes "TextTooLong"
+fault_text run.BadNumber = codes "BadNumber"
+fault_text run.BadBool = codes "BadBool"
+fault_text run.NoOpenOption = codes "NoOpenOption"
+fault_text (run.UnknownNode title) = codes "UnknownNode " ++ title
+
+-- `FILE:LINE: NODE: FAULT`
+abbrev pub faulted : List ℕ → FaultPlace → List ℕ
 faulted file fault =
-    file ++ (codes ":" ++ (decimal fault.line ++ (codes ": " ++ (fault.node ++ (codes ": UnknownNode " ++ (fault.name ++ 10 ∷ []))))))
+    file ++ (codes ":" ++ (decimal fault.line ++ (codes ": " ++ (fault.node ++ (codes ": " ++ (fault_text fault.fault ++ 10 ∷ []))))))
+
+-- `FILE: FAULT`
+abbrev pub file_refused : List ℕ → List ℕ → List ℕ
+file_refused file fault = file ++ (codes ": " ++ (fault ++ 10 ∷ []))
+
+abbrev pub too_much : List ℕ
+too_much = codes "TooMuch"
+
+abbrev pub bad_vars : ℕ → List ℕ
+bad_vars line = codes "BadVars " ++ decimal line
+
+abbrev pub bad_variable : List ℕ → List ℕ
+bad_variable name = codes "BadVariable " ++ name
+
+abbrev pub waiting : List ℕ
+waiting = codes "waiting for a choice" ++ 10 ∷ []
 
 abbrev pub event_limit : List ℕ
 event_limit = codes "event limit" ++ 10 ∷ []
@@ -58,8 +83,15 @@ no_node title = codes "no node " ++ (title ++ 10 ∷ [])
 abbrev pub cannot_read : List ℕ → List ℕ
 cannot_read name = codes "cannot read " ++ (name ++ 10 ∷ [])
 
-abbrev pub cannot_write : List ℕ
-cannot_write = codes "cannot write output" ++ 10 ∷ []
+abbrev pub cannot_write : List ℕ → List ℕ
+cannot_write name = codes "cannot write " ++ (name ++ 10 ∷ [])
+
+-- the transcript can't be written, and the answers can't be read
+abbrev pub output : List ℕ
+output = codes "output"
+
+abbrev pub input : List ℕ
+input = codes "input"
 
 abbrev pub usage : List ℕ
 usage = codes "usage: yarn check|format|strings|tag|compile|list|play|run|resume|demo" ++ 10 ∷ []

@@ -34,22 +34,26 @@ pub fn run_play<F: Files, I: Source, O: Sink, E: Sink>(
     requires { command.now.kind ≡ CommandKind.Play }
 
     // Where neither a fault nor want of memory is answered, all is as the outcome says.
-    ensures exact { IsPlain result → IfSome (F.contents files.old) (λ named.
-        Gives (of_play command.now named) result (O.written out.old) (O.written out.new) (E.written err.old) (E.written err.new)) }
+    ensures exact { IsPlain result → Told (F.contents files.old) (I.left input.old) (λ named bytes.
+        GivesWhole (of_play command.now named bytes) result (O.written out.old) (O.written out.new) (E.written err.old) (E.written err.new)
+        (I.left input.new) (F.contents files.new)) }
 
-    // Whatever is answered, what was written is a part of the outcome's.
-    ensures part { IfSome (F.contents files.old) (λ named.
-        WritesPart (O.written out.old) (O.written out.new) (of_play command.now named).out) }
+    // Whatever is answered, what was written is a part of the outcome's, and a front of the input was taken.
+    ensures part { Told (F.contents files.old) (I.left input.old) (λ named bytes.
+        WritesPart (O.written out.old) (O.written out.new) (of_play command.now named bytes).outcome.out) }
+    ensures taken { TakesFront (I.left input.old) (I.left input.new) }
+    ensures files { ChangesSaved (save_vars_of command.now) (F.contents files.old) (F.contents files.new) }
 
-    ensures read { result ≡ Status.ReadFault → Rose (F.read_faults files.old) (F.read_faults files.new)
-        × NamesRead command.now.names (F.contents files.old) (F.latest_fault files.new) (E.written err.old) (E.written err.new) }
+    ensures read { result ≡ Status.ReadFault → (Rose (F.read_faults files.old) (F.read_faults files.new)
+        × NamesRead (read_names command.now) (F.contents files.old) (F.latest_fault files.new) (E.written err.old) (E.written err.new))
+        ⊎ (Rose (I.faults input.old) (I.faults input.new) × (E.written err.new ≡ append_known (E.written err.old) (cannot_read input_name))) }
     ensures write { result ≡ Status.WriteFault → Rose (E.faults err.old) (E.faults err.new)
-        ⊎ (Rose (O.faults out.old) (O.faults out.new) × (E.written err.new ≡ append_known (E.written err.old) cannot_write)) }
+        ⊎ (Rose (O.faults out.old) (O.faults out.new) × (E.written err.new ≡ append_known (E.written err.old) (cannot_write output_name)))
+        ⊎ (Rose (F.write_faults files.old) (F.write_faults files.new) × NamesWritten (save_vars_of command.now) (E.written err.old) (E.written err.new)) }
 
-    ensures files { F.contents files.new ≡ F.contents files.old }
-    ensures input { input.new ≡ input.old }
     ensures read_count { F.read_faults files.old ≤ F.read_faults files.new }
-    ensures write_count { F.write_faults files.new ≡ F.write_faults files.old }
+    ensures write_count { F.write_faults files.old ≤ F.write_faults files.new }
+    ensures input_count { I.faults input.old ≤ I.faults input.new }
     ensures out_count { O.faults out.old ≤ O.faults out.new }
     ensures err_count { E.faults err.old ≤ E.faults err.new }
 {

@@ -6,10 +6,12 @@ ghost use Rattle.yarn_cli.specs.Status.{code_of};
 pub enum Status {
     /// All went well.
     Done,
-    /// The conversation went on to what isn't there.
+    /// The conversation faulted.
     RunFault,
     /// The project is refused.
     RefusedProject,
+    /// The input ended at options that wait for a choice.
+    WaitsChoice,
     /// The limit of events was reached.
     EventLimit,
     /// The words are no command.
@@ -20,6 +22,8 @@ pub enum Status {
     WriteFault,
     /// Want of memory.
     OutOfMemory,
+    /// The variables file is refused.
+    RefusedVars,
     /// No node has the title to start from.
     UnknownStart,
 }
@@ -33,11 +37,13 @@ impl Status {
             Status::Done => 0,
             Status::RunFault => 1,
             Status::RefusedProject => 2,
+            Status::WaitsChoice => 3,
             Status::EventLimit => 4,
             Status::Usage => 5,
             Status::ReadFault => 6,
             Status::WriteFault => 7,
             Status::OutOfMemory => 8,
+            Status::RefusedVars => 9,
             Status::UnknownStart => 12,
         }
     }

@@ -1,8 +1,5 @@
-pub mod Meaning
-pub mod Prefix
+-- The definitions that the contracts cite.
+pub mod Played
+pub mod Shown
 pub mod Stands
-pub mod Template
-pub mod Titles
 pub mod Transcript
-pub mod Unbuilt
-pub mod Walk

@@ -1,36 +1,32 @@
-use yarn_base::Text;
+use yarn_store::Store;
+use yarn_walker::FaultAt;
 
 /// Where a run stands.
-#[derive(Clone, Copy, Debug)]
+#[derive(Debug, Drop)]
 pub enum PlayEnd<'p> {
     /// The last event was the end.
     Ended,
     /// The limit of events is reached, and the last one wasn't the end.
     Limit,
-    /// Behind a jump that leads nowhere.
+    /// A group of options waits, and no bytes of the input are left.
+    Waits,
     Faults(FaultAt<'p>),
 }
 
-/// A jump to a title that no node has.
-#[derive(Clone, Copy, Debug)]
-pub struct FaultAt<'p> {
-    /// The place of the file in the project, from 0.
-    pub file: u32,
-    /// The title of the node that was left.
-    pub node: &'p Text,
-    /// The line of the jump, from 1.
-    pub line: u32,
-    /// The title that no node has.
-    pub name: &'p Text,
+/// A run that was played.
+#[derive(Debug, Drop)]
+pub struct Played<'p> {
+    pub end: PlayEnd<'p>,
+    /// The variables, as they are there.
+    pub store: Store,
 }
 
-/// Why a run has no end.
+/// Why a run wasn't played to where it stands.
 #[derive(Clone, Copy, Debug, PartialEq, Eq)]
 pub enum PlayFault {
-    /// No node has the title from which the run is to start.
-    UnknownStart,
+    /// A read of the input failed.
+    InputFailed,
     /// A write failed.
-    Failed,
-    /// Want of memory, or a file whose place doesn't fit in 32 bits.
+    OutputFailed,
     Memory,
 }

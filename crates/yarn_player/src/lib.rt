@@ -1,19 +1,10 @@
-//! Plays the files of a project.
+//! Plays a conversation: shows what a walk gives, and takes the player's answers.
 #![tactic(auto)]
 
 mod ends;
-mod laws;
+mod filled;
 mod page;
 mod run;
-mod template;
-mod titles;
-mod unbuilt;
-mod walk;
 
-pub use ends::{FaultAt, PlayEnd, PlayFault};
-pub use laws::more_begins_with_fewer;
+pub use ends::{PlayEnd, PlayFault, Played};
 pub use run::play;
-pub use unbuilt::first_unbuilt;
-
-#[cfg(test)]
-mod tests;

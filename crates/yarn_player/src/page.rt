@@ -1,19 +1,25 @@
-ghost use Rattle.std.specs.Prelude.{◌≡◌, ◌++◌, ◌∷◌, [], OnOk};
+//! What is shown, collected into pages.
+ghost use Rattle.std.specs.Prelude.{◌≡◌, ◌++◌, ◌≤◌, [], codes, map, All, OnOk};
 ghost use Rattle.std.specs.Io.KnownBytes.{append_known};
 ghost use Rattle.yarn_base.specs.Causes.{HasCause};
 ghost use Rattle.yarn_base.specs.Outside.{WritesPart};
 ghost use Rattle.yarn_base.proofs.Written.{IsWritten};
-ghost use Rattle.yarn_player.specs.Template.{expanded};
+ghost use Rattle.yarn_meaning.specs.Filled.{filled};
+ghost use Rattle.yarn_player.specs.Shown.{offers_text};
+ghost use Rattle.yarn_player.specs.Transcript.{ended, option_text};
 
-use crate::template::first_piece;
+use crate::filled::push_filled;
 use std::alloc::Global;
-use yarn_base::{IoFault, Memory, Sink, Text, write_all};
+use yarn_base::{IoFault, List, Memory, Sink, Text, write_all};
+use yarn_tree::LineText;
+use yarn_value::Value;
+use yarn_walker::Offer;
 
 const PAGE_BYTES: usize = 65536;
 
 /// Bytes that are collected before they are handed over.
 #[derive(Drop)]
-pub struct Page {
+pub(crate) struct Page {
     bytes: Vec<u8>,
 }
 
@@ -26,32 +32,71 @@ impl Page {
         }
     }
 
-    /// Takes the expanded text of a line, and hands a full page over.
-    pub fn line<O: Sink>(&mut self, text: &Text, out: &mut O) -> Result<(), IoFault>
-        ensures ok { OnOk result (IsWritten (O.written out.old) (O.written out.new) (O.faults out.old) (O.faults out.new)
-            (self.old.bytes.items ++ (expanded text.now ++ 10 ∷ [])) self.new.bytes.items) }
-        ensures part { WritesPart (O.written out.old) (O.written out.new) (self.old.bytes.items ++ (expanded text.now ++ 10 ∷ [])) }
-        ensures cause { HasCause (O.faults out.old) (O.faults out.new) result }
+    /// Takes a line with its values put in.
+    pub fn line(&mut self, alloc: Global, text: &Text, values: &List<Value>) -> Result<(), Memory>
+        ensures { OnOk result (self.new.bytes.items ≡ self.old.bytes.items ++ ended (filled text.now values.now)) }
     {
-        if self.add(text).is_err() {
-            return Err(IoFault::Memory);
-        }
-        if self.bytes.len() >= PAGE_BYTES {
-            self.turn(out)?;
+        push_filled(alloc, &mut self.bytes, text, values)?;
+        self.bytes.push(b'\n')?;
+        Ok(())
+    }
+
+    /// Takes a command.
+    pub fn command(
+        &mut self,
+        alloc: Global,
+        text: &Text,
+        values: &List<Value>,
+    ) -> Result<(), Memory>
+        ensures { OnOk result (self.new.bytes.items ≡ self.old.bytes.items ++ ended (codes "<<" ++ (filled text.now values.now ++ codes ">>"))) }
+    {
+        self.bytes.extend_from_slice(b"<<")?;
+        push_filled(alloc, &mut self.bytes, text, values)?;
+        self.bytes.extend_from_slice(b">>\n")?;
+        Ok(())
+    }
+
+    /// Takes the options of a group, which count from 1.
+    pub fn options(&mut self, alloc: Global, offers: &[Offer]) -> Result<(), Memory>
+        ensures { OnOk result (self.new.bytes.items ≡ self.old.bytes.items ++ offers_text 1 offers.now) }
+    {
+        let mut number = 1u32;
+        for offer in offers {
+            self.option(alloc, number, offer)?;
+            number = number.checked_add(1).ok_or(Memory)?;
         }
         Ok(())
     }
 
-    fn add(&mut self, text: &Text) -> Result<(), Memory>
-        ensures { OnOk result (self.new.bytes.items ≡ self.old.bytes.items ++ (expanded text.now ++ 10 ∷ [])) }
+    fn option(&mut self, alloc: Global, number: u32, offer: &Offer) -> Result<(), Memory>
+        ensures { OnOk result (self.new.bytes.items
+            ≡ self.old.bytes.items ++ option_text number offer.now.available (filled offer.now.text.now.text offer.now.values)) }
     {
-        let mut rest = text.as_str().as_bytes();
-        while !rest.is_empty() {
-            let (piece, after) = first_piece(rest);
-            self.bytes.extend_from_slice(piece)?;
-            rest = after;
+        let start = format!(in alloc; "{number}) ")?;
+        self.bytes.extend_from_slice(start.as_bytes())?;
+        if !offer.available {
+            self.bytes.extend_from_slice(b"[closed] ")?;
         }
-        self.bytes.push(b'\n')?;
+        self.line(alloc, &offer.text.text, &offer.values)
+    }
+
+    /// Takes the answer to a number that chooses no option.
+    pub fn rejected(&mut self) -> Result<(), Memory>
+        ensures { OnOk result (self.new.bytes.items ≡ self.old.bytes.items ++ ended (codes "(no such choice)")) }
+    {
+        self.bytes.extend_from_slice(b"(no such choice)\n")?;
+        Ok(())
+    }
+
+    /// Hands the page over where it is full.
+    pub fn turn_full<O: Sink>(&mut self, out: &mut O) -> Result<(), IoFault>
+        ensures ok { OnOk result (IsWritten (O.written out.old) (O.written out.new) (O.faults out.old) (O.faults out.new) self.old.bytes.items self.new.bytes.items) }
+        ensures part { WritesPart (O.written out.old) (O.written out.new) self.old.bytes.items }
+        ensures cause { HasCause (O.faults out.old) (O.faults out.new) result }
+    {
+        if self.bytes.len() >= PAGE_BYTES {
+            self.turn(out)?;
+        }
         Ok(())
     }
 

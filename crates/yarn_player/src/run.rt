@@ -1,87 +1,121 @@
-ghost use Rattle.std.specs.Prelude.{◌≡◌, ◌≤◌, map, None, OnOk, IfOk, IsErrOf};
-ghost use Rattle.yarn_tree.specs.Trees.{file_tree};
-ghost use Rattle.std.specs.Io.KnownBytes.{append_known};
-ghost use Rattle.yarn_base.specs.Causes.{Rose, HasCause};
-ghost use Rattle.yarn_base.specs.Outside.{WritesPart};
-ghost use Rattle.yarn_player.specs.Meaning.{first_of, find};
-ghost use Rattle.yarn_player.specs.Stands.{stand_of};
-ghost use Rattle.yarn_player.specs.Titles.{HasAll};
-ghost use Rattle.yarn_player.specs.Transcript.{transcript};
-ghost use Rattle.yarn_player.specs.Walk.{stand_from, text_from};
+//! Plays a walk.
+ghost use Rattle.std.specs.Prelude.{◌≡◌, ◌≤◌, IfOk, IfSome, OnOk, IsErrOf};
+ghost use Rattle.yarn_base.specs.Causes.{Rose};
+ghost use Rattle.yarn_player.specs.Played.{first_from, IsPlayed, Writes, WritesSome, TakesFront};
+ghost use Rattle.yarn_walker.specs.Walk.{IsSound};
 
-use crate::ends::{PlayEnd, PlayFault};
+use crate::ends::{PlayEnd, PlayFault, Played};
 use crate::page::Page;
-use crate::titles::Titles;
-use crate::walk::{Place, Turn, Walk};
 use std::alloc::Global;
-use yarn_base::{IoFault, Sink, Text};
-use yarn_tree::File;
+use yarn_base::{Failed, IoFault, Memory, Sink, Source};
+use yarn_code::take_answer;
+use yarn_walker::{Turn, Walk};
 
-/// Plays from the node of the title `start` on, and writes the transcript of the first `limit` events
-/// (docs/language.md, The meaning, The transcript). The answer says where the run stands then.
-///
-/// `UnknownStart` comes before anything is written, and only where no node has that title. After another
-/// fault the front of the transcript is written.
-pub fn play<'p, O: Sink>(
-    alloc: Global,
-    files: &'p [File],
-    start: &Text,
-    limit: u64,
-    out: &mut O,
-) -> Result<PlayEnd<'p>, PlayFault>
-    requires { 1 ≤ limit }
-    ensures stand { IfOk result (λ end. stand_of end ≡ (first_of (map file_tree files.now) start.now limit).stand) }
-    ensures written { OnOk result (O.written out.new
-        ≡ append_known (O.written out.old) (transcript (first_of (map file_tree files.now) start.now limit).events)) }
-    ensures part { WritesPart (O.written out.old) (O.written out.new)
-        (transcript (first_of (map file_tree files.now) start.now limit).events) }
-    ensures unknown { IsErrOf result PlayFault.UnknownStart → find start.now (map file_tree files.now) ≡ None }
-    ensures known { OnOk result (find start.now (map file_tree files.now) ≡ None → ⊥) }
-    ensures failed_known { IsErrOf result PlayFault.Failed → find start.now (map file_tree files.now) ≡ None → ⊥ }
-    ensures failed { IsErrOf result PlayFault.Failed → Rose (O.faults out.old) (O.faults out.new) }
-    ensures nothing { IsErrOf result PlayFault.UnknownStart → O.written out.new ≡ O.written out.old }
-    ensures count { O.faults out.old ≤ O.faults out.new }
-{
-    let Ok(titles) = Titles::new(alloc, files) else {
-        return Err(PlayFault::Memory);
-    };
-    let Some(node) = titles.find(start) else {
-        return Err(PlayFault::UnknownStart);
-    };
-    let place = Place::Enters(node);
-    match show(alloc, Walk { titles, place }, limit, out) {
-        Ok(end) => Ok(end),
-        Err(IoFault::Failed) => Err(PlayFault::Failed),
-        Err(IoFault::Memory) => Err(PlayFault::Memory),
+impl From<Memory> for PlayFault {
+    ghost use Rattle.yarn_player.specs.declared.ends.PlayFault.TheVariants as fault;
+
+    ghost from_gives = { λ _ e. e ≡ fault.Memory };
+
+    fn from(_: Memory) -> PlayFault {
+        PlayFault::Memory
     }
 }
 
-// Writes the lines among the first events of a walk.
-fn show<'p, O: Sink>(
+/// Plays a walk, and writes the transcript of its first `limit` events (docs/language.md, The meaning, The transcript).
+/// Answers are taken from the input where a group of options waits; what was shown is handed over before that. The
+/// result says where the run stands then, and has the variables.
+///
+/// After a fault a front of the transcript is written, and a front of the input is taken.
+pub fn play<'p, I: Source, O: Sink>(
     alloc: Global,
-    mut walk: Walk<'p>,
+    walk: Walk<'p>,
     limit: u64,
+    input: &mut I,
     out: &mut O,
-) -> Result<PlayEnd<'p>, IoFault>
-    requires { HasAll walk.titles }
-    ensures stand { IfOk result (λ end. stand_of end ≡ stand_from (map file_tree walk.entry.titles.files.now) walk.entry.place limit) }
-    ensures written { OnOk result (O.written out.new
-        ≡ append_known (O.written out.old) (text_from (map file_tree walk.entry.titles.files.now) walk.entry.place limit)) }
-    ensures part { WritesPart (O.written out.old) (O.written out.new)
-        (text_from (map file_tree walk.entry.titles.files.now) walk.entry.place limit) }
-    ensures cause { HasCause (O.faults out.old) (O.faults out.new) result }
+) -> Result<Played<'p>, PlayFault>
+    requires sound { IsSound walk }
+    requires limit { 1 ≤ limit }
+    ensures played { IfSome (I.left input.old) (λ bytes. IfOk result (λ played. IsPlayed (first_from walk bytes limit) played (I.left input.new))) }
+    ensures written { IfSome (I.left input.old) (λ bytes. OnOk result (Writes walk (first_from walk bytes limit) (O.written out.old) (O.written out.new))) }
+    ensures part { IfSome (I.left input.old) (λ bytes. WritesSome walk (first_from walk bytes limit) (O.written out.old) (O.written out.new)) }
+    ensures taken { TakesFront (I.left input.old) (I.left input.new) }
+    ensures input_failed { IsErrOf result PlayFault.InputFailed → Rose (I.faults input.old) (I.faults input.new) }
+    ensures output_failed { IsErrOf result PlayFault.OutputFailed → Rose (O.faults out.old) (O.faults out.new) }
+    ensures input_count { I.faults input.old ≤ I.faults input.new }
+    ensures output_count { O.faults out.old ≤ O.faults out.new }
 {
+    let mut walk = walk;
     let mut page = Page::new(alloc);
     for _ in 0..limit {
-        match walk.next() {
-            Turn::Quiet => {}
-            Turn::Says(text) => page.line(text, out)?,
-            Turn::Ends(end) => {
-                page.turn(out)?;
-                return Ok(end);
+        let end = step(alloc, &mut walk, &mut page, input, out)?;
+        if let Some(end) = end {
+            return finish(walk, page, end, out);
+        }
+        page.turn_full(out).map_err(output_fault)?;
+    }
+    finish(walk, page, PlayEnd::Limit, out)
+}
+
+// Hands over what is kept.
+fn finish<'p, O: Sink>(
+    walk: Walk<'p>,
+    page: Page,
+    end: PlayEnd<'p>,
+    out: &mut O,
+) -> Result<Played<'p>, PlayFault> {
+    let mut page = page;
+    page.turn(out).map_err(output_fault)?;
+    let store = walk.into_store();
+    Ok(Played { end, store })
+}
+
+// Gives one event, or where the run stands in its place.
+fn step<'p, I: Source, O: Sink>(
+    alloc: Global,
+    walk: &mut Walk<'p>,
+    page: &mut Page,
+    input: &mut I,
+    out: &mut O,
+) -> Result<Option<PlayEnd<'p>>, PlayFault> {
+    if walk.asks() {
+        page.turn(out).map_err(output_fault)?;
+        match take_answer(input) {
+            Ok(None) => return Ok(Some(PlayEnd::Waits)),
+            Ok(Some(number)) => {
+                if !walk.choose(number)? {
+                    page.rejected()?;
+                    return Ok(None);
+                }
             }
+            Err(Failed) => return Err(PlayFault::InputFailed),
         }
     }
-    page.turn(out)?;
-    Ok(PlayEnd::Limit)
+    show(alloc, walk, page)
+}
+
+// Gives one event of a walk that doesn't ask.
+fn show<'p>(
+    alloc: Global,
+    walk: &mut Walk<'p>,
+    page: &mut Page,
+) -> Result<Option<PlayEnd<'p>>, PlayFault> {
+    match walk.next(alloc)? {
+        Turn::NodeStart(_) | Turn::NodeEnd(_) => {}
+        Turn::Line(text, values) => page.line(alloc, &text.text, &values)?,
+        Turn::Command(text, values) => page.command(alloc, &text.text, &values)?,
+        Turn::Options => page.options(alloc, walk.offers())?,
+        Turn::End => return Ok(Some(PlayEnd::Ended)),
+        Turn::Faults(fault) => return Ok(Some(PlayEnd::Faults(fault))),
+    }
+    Ok(None)
+}
+
+fn output_fault(fault: IoFault) -> PlayFault
+    ensures failed { result ≡ PlayFault.OutputFailed → fault ≡ IoFault.Failed }
+    ensures never { result ≡ PlayFault.InputFailed → ⊥ }
+{
+    match fault {
+        IoFault::Failed => PlayFault::OutputFailed,
+        IoFault::Memory => PlayFault::Memory,
+    }
 }

@@ -1,0 +1,2 @@
+pub mod Fuel
+mod Prefix

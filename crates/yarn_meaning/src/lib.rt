@@ -1,0 +1,6 @@
+//! What a project means: the values of its expressions, what its statements do, and what it gives from a node on.
+#![tactic(auto)]
+
+mod laws;
+
+pub use laws::more_begins_with_fewer;

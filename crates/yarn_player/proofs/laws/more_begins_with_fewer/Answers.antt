@@ -1,5 +1,0 @@
-use Rattle.yarn_player.proofs.Prefix.{first_prefix}
-use Rattle.yarn_player.proofs.laws.more_begins_with_fewer.Goals as goal
-
-pub returns : goal.returns
-returns c = first_prefix
