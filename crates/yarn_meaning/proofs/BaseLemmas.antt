@@ -91,7 +91,8 @@ mutual
       ∙ sym (body-append xs (rest ++ ys))
       ∙ ap (λ v. and_text (said_at v) (body_texts (xs ++ (rest ++ ys)))) (sym w)
 
-  tail-texts : {xs behind : List Entry} {cs : Clauses} {last : Last} {e : Head} → Tail xs behind cs last e → said_in_clauses cs ++ said_in_last last ≡ body_texts xs
+  tail-texts : {xs behind : List Entry} {cs : Clauses} {last : Last} {e : Head} → Tail xs behind cs last e →
+      said_in_clauses cs ++ said_in_last last ≡ body_texts xs
   tail-texts (ends {x = x} {e = e} w) = ap (λ v. and_text (said_at v) []) (sym w)
   tail-texts (otherwise {x = x} {y = y} {n = n} {e = e} {xs = xs} {b = b} w first v) =
       block-texts first
