@@ -1,2 +1,3 @@
 pub mod Fuel
 mod Prefix
+pub mod BaseLemmas

@@ -5,4 +5,5 @@ pub mod Filled
 pub mod Does
 pub mod First
 pub mod Texts
+pub mod BaseLaw
 pub mod Prefix

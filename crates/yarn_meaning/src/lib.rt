@@ -3,4 +3,4 @@
 
 mod laws;
 
-pub use laws::more_begins_with_fewer;
+pub use laws::{base_tells_all, more_begins_with_fewer};
