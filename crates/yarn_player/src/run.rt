@@ -35,9 +35,9 @@ pub fn play<'p, I: Source, O: Sink>(
 ) -> Result<Played<'p>, PlayFault>
     requires sound { IsSound walk }
     requires limit { 1 ≤ limit }
-    ensures played { IfSome (I.left input.old) (λ bytes. IfOk result (λ played. IsPlayed (first_from walk bytes limit) played (I.left input.new))) }
-    ensures written { IfSome (I.left input.old) (λ bytes. OnOk result (Writes walk (first_from walk bytes limit) (O.written out.old) (O.written out.new))) }
-    ensures part { IfSome (I.left input.old) (λ bytes. WritesSome walk (first_from walk bytes limit) (O.written out.old) (O.written out.new)) }
+    ensures played { IfSome (I.left input.old) (λ bytes. IfOk result (λ played. IsPlayed (first_from walk.entry bytes limit) played (I.left input.new))) }
+    ensures written { IfSome (I.left input.old) (λ bytes. OnOk result (Writes walk.entry (first_from walk.entry bytes limit) (O.written out.old) (O.written out.new))) }
+    ensures part { IfSome (I.left input.old) (λ bytes. WritesSome walk.entry (first_from walk.entry bytes limit) (O.written out.old) (O.written out.new)) }
     ensures taken { TakesFront (I.left input.old) (I.left input.new) }
     ensures input_failed { IsErrOf result PlayFault.InputFailed → Rose (I.faults input.old) (I.faults input.new) }
     ensures output_failed { IsErrOf result PlayFault.OutputFailed → Rose (O.faults out.old) (O.faults out.new) }
