@@ -10,7 +10,7 @@ use std::alloc::Global;
 use yarn_base::{List, Memory, Text};
 use yarn_expr::{BinaryOp, Expr, UnaryOp};
 use yarn_store::Store;
-use yarn_value::{BUILTINS, Kind, Op, OpFault, Value, apply};
+use yarn_value::{Kind, Op, OpFault, Value, apply, find_builtin};
 
 /// The value of an expression, or the fault of the run. A call of what isn't a builtin, and operands of other kinds
 /// than the operator's, are answered by `Memory`: no project with one typing has them.
@@ -175,10 +175,11 @@ fn takes_two(op: Op, first: Kind, second: Kind) -> bool
     }
 }
 
+#[tactic(auto, unfolding(yarn_meaning::specs::Eval::builtin_named))]
 fn call(alloc: Global, name: &Text, args: &[Value], store: &Store) -> Result<Value, OpFault>
     ensures { Means (called [] store.now (builtin_named name.now) name.now args.now []) result }
 {
-    match BUILTINS.find(name.as_str()) {
+    match find_builtin(name.as_str()) {
         Some(row) => match row.op {
             Some(op) => operated(alloc, op, args),
             None => Ok(visits_value(alloc, row.result, args, store)?),
