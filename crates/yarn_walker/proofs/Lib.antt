@@ -1,1 +1,4 @@
 pub mod EvaluateLemmas
+pub mod Found
+pub mod FrameLemmas
+pub mod VariableLemmas

@@ -4,7 +4,7 @@ ghost use Rattle.std.specs.Option.{option_copied};
 ghost use Rattle.yarn_store.specs.Pairs.{IsPair, value_under};
 ghost use Rattle.yarn_tree.specs.Trees.{file_tree, node_tree};
 ghost use Rattle.yarn_blocks.specs.View.{stmt_of, stmts_of, options_of, clauses_of, last_of};
-ghost use Rattle.yarn_meaning.specs.Variables.{variables_of, typed_pairs, counts_in, first_value as first_value_of, plain_value as plain_value_of, first_store as first_store_of, first_other as first_other_of, is_other_kind as is_other_kind_of, with_missing, with_missing_one, declared_in, declared_in_one, declared_in_options, declared_in_clauses, declared_in_last, declared_in_files};
+ghost use Rattle.yarn_meaning.specs.Variables.{variables_of, typed_pairs, counts_in, first_value as first_value_of, plain_value as plain_value_of, first_store as first_store_of, first_other as first_other_of, is_other_kind as is_other_kind_of, with_missing, with_missing_one, declared_in, declared_in_one, declared_in_options, declared_in_clauses, declared_in_last, declared_in_nodes, declared_in_files};
 ghost use Rattle.yarn_walker.specs.Variables.{pairs_of};
 
 use crate::stored::{count_name, is_short};
@@ -155,11 +155,18 @@ fn declared(alloc: Global, files: &[File]) -> Result<Store, Memory>
 {
     let mut store = Store::new(alloc);
     for file in files {
-        for node in file.nodes.as_slice() {
-            declare_body(&mut store, node.body.as_slice())?;
-        }
+        declare_nodes(&mut store, file.nodes.as_slice())?;
     }
     Ok(store)
+}
+
+fn declare_nodes(store: &mut Store, nodes: &[Node]) -> Result<(), Memory>
+    ensures { OnOk result (store.new ≡ with_missing store.old (declared_in_nodes (map node_tree nodes.now))) }
+{
+    for node in nodes {
+        declare_body(store, node.body.as_slice())?;
+    }
+    Ok(())
 }
 
 #[cycle(declaring)]
