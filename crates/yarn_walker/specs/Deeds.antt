@@ -35,8 +35,8 @@ abbrev pub done_of : Deed → Stmts → State → Done
 done_of (deed.Line text values) rest st = showing (event.Line text.now.id values) st (does_all [] rest st)
 done_of (deed.Command text values) rest st = showing (event.Command (filled text.now.text values)) st (does_all [] rest st)
 done_of (deed.Options os offers) rest st =
-    showing (event.Options (all_shown offers)) st
-    (and_on (waits (group_line (options_of os.now)) (all_shown offers) st (λ n st1. does_option [] (options_of os.now) n st1)) (λ st1. does_all [] rest st1))
+    showing (event.Options (all_shown offers.items)) st
+    (and_on (waits (group_line (options_of os.now)) (all_shown offers.items) st (λ n st1. does_option [] (options_of os.now) n st1)) (λ st1. does_all [] rest st1))
 done_of deed.Through rest st = done Through st
 done_of (deed.Jump line title) rest st = done (Jumps line title.now) st
 done_of (deed.JumpTo line title) rest st = done (Jumps line title) st
@@ -59,7 +59,7 @@ DoesFirst old before (Err e) new store = Does old before (Err e) new store
 -- the table has the texts that are shown
 abbrev pub TellsDeed : Table → Deed → Type 0
 TellsDeed table (deed.Line text values) = Tells table text.now
-TellsDeed table (deed.Options os offers) = All (λ (offer : Offer). Tells table offer.text.now) offers × TellsAll table (said_in_options (options_of os.now))
+TellsDeed table (deed.Options os offers) = All (λ (offer : Offer). Tells table offer.text.now) offers.items × TellsAll table (said_in_options (options_of os.now))
 TellsDeed table _ = ⊤
 
 -- a table that has the texts of the statements has those that are shown, and those of the statements behind

@@ -1,5 +1,6 @@
 -- The options of a group as they are shown.
-use Rattle.std.specs.Prelude.{◌≡◌, ℕ, List, [], ◌∷◌, map, Result, Ok, Err, All, ⊤}
+use Rattle.std.specs.Prelude.{◌≡◌, ℕ, List, [], ◌∷◌, map, Result, Ok, Err, All, ⊤, Vec}
+use Rattle.std.specs.declared.alloc.Global.{Global}
 use Rattle.yarn_value.specs.declared.fault.OpFault.{OpFault}
 use Rattle.yarn_blocks.specs.declared.tree.LineText.{LineText}
 use Rattle.yarn_blocks.specs.declared.tree.OptionItem.{OptionItem}
@@ -30,9 +31,9 @@ abbrev pub OffersOne : OptionItem → Pairs → Result Offer OpFault → Type 0
 OffersOne option store result = Means (choice_of [] (record { text = option.text; condition = option.condition }) store []) (one_shown result)
 
 -- a group is shown so, or an evaluation gives no value
-abbrev pub Offers : Options → Pairs → Result (List Offer) Halt → Type 0
+abbrev pub Offers : Options → Pairs → Result (Vec Offer Global) Halt → Type 0
 Offers os store (Ok offers) = (answers : List ℕ) (next : List Choice → State → Done) →
-    with_choices [] os [] (at store answers) next ≡ next (all_shown offers) (at store answers)
+    with_choices [] os [] (at store answers) next ≡ next (all_shown offers.items) (at store answers)
 Offers os store (Err (halt.Fault line fault)) = (answers : List ℕ) (next : List Choice → State → Done) →
     with_choices [] os [] (at store answers) next ≡ done (Halted line (Faults fault)) (at store answers)
 Offers os store (Err halt.Memory) = ⊤

@@ -52,7 +52,7 @@ from_seat files fuel cs Finishes st = finishes st
 from_seat files fuel cs (Fails f) st = stands (Faults (fault_of f)) st
 
 abbrev pub coming : Walk → Coming
-coming w fuel answers = from_seat (files_of w) fuel (all_shown w.offers) w.seat (at w.store answers)
+coming w fuel answers = from_seat (files_of w) fuel (all_shown w.offers.items) w.seat (at w.store answers)
 
 -- what a walk gives within the next k + 1 events; each node gives an event, so room for k further nodes suffices
 abbrev pub run_of : Walk → List ℕ → Behaviour
@@ -69,7 +69,7 @@ abbrev pub Turned : Coming → Turn → Walk → Type 0
 Turned c (turn.NodeStart title) new = Gives c (event.NodeStart title.now) new
 Turned c (turn.Line text values) new = Gives c (event.Line text.now.id values) new
 Turned c (turn.Command text values) new = Gives c (event.Command (filled text.now.text values)) new
-Turned c turn.Options new = Gives c (event.Options (all_shown new.offers)) new
+Turned c turn.Options new = Gives c (event.Options (all_shown new.offers.items)) new
 Turned c (turn.NodeEnd title) new = Gives c (event.NodeEnd title.now) new
 Turned c turn.End new = (answers : List ℕ) (k : ℕ) → c k answers k ≡ finishes (at new.store answers) k
 Turned c (turn.Faults f) new = (answers : List ℕ) (k : ℕ) → c k answers k ≡ stands (Faults (fault_of f)) (at new.store answers) k
@@ -113,7 +113,7 @@ ToldSeat table (Fails f) = ⊤
 -- the table has the texts that are shown
 abbrev pub ToldTurn : Table → Turn → Walk → Type 0
 ToldTurn table (turn.Line text values) new = Tells table text.now
-ToldTurn table turn.Options new = All (λ (offer : Offer). Tells table offer.text.now) new.offers
+ToldTurn table turn.Options new = All (λ (offer : Offer). Tells table offer.text.now) new.offers.items
 ToldTurn table _ new = ⊤
 
 -- whatever table has the texts of all files
@@ -133,7 +133,7 @@ IsGroup _ offers = ⊤
 pub record IsSound (w : Walk) : Type 0 where
   pub titles : HasAll w.titles
   pub told : WithTexts (files_of w) (λ table. ToldSeat table w.seat)
-  pub group : IsGroup w.seat w.offers
+  pub group : IsGroup w.seat w.offers.items
 
 pub record StaysSound (old new : Walk) : Type 0 where
   pub sound : IsSound new

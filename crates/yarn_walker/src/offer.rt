@@ -1,7 +1,7 @@
 //! The options of a group as they are shown.
 ghost use Rattle.std.specs.Prelude.{◌≡◌, [], All, IfOk, OnOk};
 ghost use Rattle.yarn_blocks.specs.View.{options_of};
-ghost use Rattle.yarn_meaning.specs.Does.{any_open as any_open_of, choice_of};
+ghost use Rattle.yarn_meaning.specs.Does.{any_open as any_open_of, asked};
 ghost use Rattle.yarn_walker.specs.Means.{Means};
 ghost use Rattle.yarn_walker.specs.Offers.{shown_as, all_shown, Offers, OffersOne, AreOf};
 
@@ -50,7 +50,7 @@ pub(crate) fn offers_of<'p>(
 
 fn offer_of<'p>(alloc: Global, option: &'p OptionItem, store: &Store) -> Result<Offer<'p>, OpFault>
     ensures meaning { OffersOne option.now store.now result }
-    ensures text { IfOk result (λ offer. offer.text ≡ option.now.text) }
+    ensures text { IfOk result (λ offer. offer.text.now ≡ option.now.text) }
 {
     let text = &option.text;
     let values = evaluate_all(alloc, text.holes.as_slice(), store)?;
