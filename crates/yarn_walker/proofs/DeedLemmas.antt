@@ -1,9 +1,9 @@
 -- What a statement does, with the statements behind it.
-use Rattle.std.proofs.Common.{◌≡◌, ℕ, suc, ◌+◌, ◌<◌, ◌≤◌, ◌⊎◌, inl, inr, List, [], ◌∷◌, ◌++◌, Result, Ok, Err, refl, sym, ap, ◌∙◌, subst, append_assoc, map, arith}
+use Rattle.std.proofs.Common.{◌≡◌, ℕ, ◌+◌, ◌<◌, ◌≤◌, inl, inr, List, [], ◌∷◌, ◌++◌, Ok, Err, refl, sym, ap, ◌∙◌, subst, append_assoc, map, arith}
 use Rattle.std.specs.Prelude.{All, Vec}
 use Rattle.std.specs.declared.alloc.Global.{Global}
 use Rattle.std.proofs.lemmas.List.Elements.{All-nil, All-cons, All-head, All-tail, All-append}
-use Rattle.yarn_blocks.specs.Tree.{Stmt, Leaf, Group, Choice, Stmts, Nil, Cons, Options, NoOptions, AndOption, Clauses, NoClauses, AndClause, Last, NoElse, ElseOf, stmts_then}
+use Rattle.yarn_blocks.specs.Tree.{Leaf, Group, Choice, Stmts, Nil, Cons, Options, NoOptions, AndOption, Clauses, NoClauses, AndClause, Last, NoElse, ElseOf, stmts_then}
 use Rattle.yarn_value.specs.declared.value.Value.{Value}
 use Rattle.yarn_expr.specs.declared.tree.Expr.{Expr}
 use Rattle.yarn_blocks.specs.declared.tree.Head.{Head}
@@ -37,7 +37,8 @@ goes_on_prefixed Waiting ms ns st next = refl
 pub prefixed_then : (ms : List Moment) (d : Done) (next : State → Done) → and_on (prefixed ms d) next ≡ prefixed ms (and_on d next)
 prefixed_then ms d next = goes_on_prefixed d.exit ms d.moments d.state next
 
-goes_on_then : (x : Exit) (ms : List Moment) (st : State) (f g h : State → Done) → ((s : State) → h s ≡ and_on (f s) g) → goes_on x ms st h ≡ and_on (goes_on x ms st f) g
+goes_on_then : (x : Exit) (ms : List Moment) (st : State) (f g h : State → Done) →
+    ((s : State) → h s ≡ and_on (f s) g) → goes_on x ms st h ≡ and_on (goes_on x ms st f) g
 goes_on_then Through ms st f g h e = ap (prefixed ms) (e st) ∙ sym (prefixed_then ms (f st) g)
 goes_on_then (Jumps line title) ms st f g h e = refl
 goes_on_then (Stops line) ms st f g h e = refl
@@ -49,7 +50,8 @@ pub body_then : (body b : Stmts) (st : State) → does_all [] (stmts_then body b
 body_then Nil b st = refl
 body_then (Cons s a) b st =
     let d : Done = does [] s st in
-    goes_on_then d.exit d.moments d.state (λ st1. does_all [] a st1) (λ st1. does_all [] b st1) (λ st1. does_all [] (stmts_then a b) st1) (λ st1. body_then a b st1)
+    goes_on_then d.exit d.moments d.state (λ st1. does_all [] a st1) (λ st1. does_all [] b st1) (λ st1. does_all [] (stmts_then a b) st1)
+    (λ st1. body_then a b st1)
 
 weight_then : (body b : Stmts) → weight (stmts_then body b) ≡ weight body + weight b
 weight_then Nil b = omega arith
@@ -67,7 +69,8 @@ All-split P (x ∷ xs) ys all =
 
 -- ---- a line
 
-pub line_told : (table : Table) (text : LineText) (b : Stmts) → TellsAll table (said_in (Cons (Leaf (simple.Line text)) b)) → Tells table text × TellsAll table (said_in b)
+pub line_told : (table : Table) (text : LineText) (b : Stmts) →
+    TellsAll table (said_in (Cons (Leaf (simple.Line text)) b)) → Tells table text × TellsAll table (said_in b)
 line_told table text b told = (All-head (Tells table) text (said_in b) told, All-tail (Tells table) text (said_in b) told)
 
 -- ---- a group
@@ -79,7 +82,8 @@ pub group_does : (os : Options) (b : Stmts) (store : Pairs) (offers : Vec Offer 
 group_does os b store offers means answers =
     ap (λ d. and_on d (λ st1. does_all [] b st1))
     (means answers (λ cs st1. showing (event.Options cs) st1 (waits (group_line os) cs st1 (λ n st2. does_option [] os n st2))))
-    ∙ prefixed_then (moment (event.Options (all_shown offers.items)) (at store answers) ∷ []) (waits (group_line os) (all_shown offers.items) (at store answers) (λ n st1. does_option [] os n st1)) (λ st1. does_all [] b st1)
+    ∙ prefixed_then (moment (event.Options (all_shown offers.items)) (at store answers) ∷ [])
+    (waits (group_line os) (all_shown offers.items) (at store answers) (λ n st1. does_option [] os n st1)) (λ st1. does_all [] b st1)
 
 pub group_halts : (os : Options) (b : Stmts) (store : Pairs) (e : Halt) → Offers os store (Err e) → Does (Cons (Group os) b) store (Err e) b store
 group_halts os b store (halt.Fault line fault) means =
@@ -94,7 +98,8 @@ texts_told table (AndOption n body os) told =
     All-cons (Tells table) n.text (texts_of os) (All-head (Tells table) n.text (said_in body ++ said_in_options os) told)
     (texts_told table os (All-split (Tells table) (said_in body) (said_in_options os) rest).1)
 
-offers_told : (table : Table) (offers : List Offer) → TellsAll table (map (λ offer. offer.text.now) offers) → All (λ (offer : Offer). Tells table offer.text.now) offers
+offers_told : (table : Table) (offers : List Offer) → TellsAll table (map (λ offer. offer.text.now) offers) →
+    All (λ (offer : Offer). Tells table offer.text.now) offers
 offers_told table [] told = All-nil (λ (offer : Offer). Tells table offer.text.now)
 offers_told table (offer ∷ offers) told =
     let texts : List LineText = map (λ o. o.text.now) offers in
@@ -115,7 +120,8 @@ pub if_does : (cs : Clauses) (last : Last) (e : Head) (body b : Stmts) (store : 
 if_does cs last e body b store chosen answers =
     ap (λ d. and_on d (λ st1. does_all [] b st1)) (chosen answers) ∙ sym (body_then body b (at store answers))
 
-pub if_halts : (cs : Clauses) (last : Last) (end : Head) (b : Stmts) (store : Pairs) (e : Halt) → Chooses cs last store (Err e) → Does (Cons (Choice cs last end) b) store (Err e) b store
+pub if_halts : (cs : Clauses) (last : Last) (end : Head) (b : Stmts) (store : Pairs) (e : Halt) → Chooses cs last store (Err e) →
+    Does (Cons (Choice cs last end) b) store (Err e) b store
 if_halts cs last end b store (halt.Fault line fault) chosen = λ answers. ap (λ d. and_on d (λ st1. does_all [] b st1)) (chosen answers)
 if_halts cs last end b store halt.Memory chosen = tt
 
@@ -135,7 +141,8 @@ said_else : (last : Last) → said_in (else_body last) ≡ said_in_last last
 said_else NoElse = refl
 said_else (ElseOf head body) = refl
 
-body_told : (table : Table) (cs : Clauses) (last : Last) (body : Stmts) → IsBodyOf cs last body → TellsAll table (said_in_clauses cs) → TellsAll table (said_in_last last) → TellsAll table (said_in body)
+body_told : (table : Table) (cs : Clauses) (last : Last) (body : Stmts) → IsBodyOf cs last body →
+    TellsAll table (said_in_clauses cs) → TellsAll table (said_in_last last) → TellsAll table (said_in body)
 body_told table NoClauses last body is clauses_told last_told = subst (TellsAll table) (sym (ap said_in is ∙ said_else last)) last_told
 body_told table (AndClause n own cs) last body (inl is) clauses_told last_told =
     subst (λ b. TellsAll table (said_in b)) (sym is) (All-split (Tells table) (said_in own) (said_in_clauses cs) clauses_told).0
@@ -154,17 +161,21 @@ if_told table cs last e body b is told =
 -- ---- a jump to a title that is evaluated
 
 title_used : (line : ℕ) (meant : Evaluated Value) (st : State) →
-    using line meant st (λ v st1. done (Jumps line (title_in v)) st1) ≡ using line (and_then meant (λ v t. Gives (title_in v) t)) st (λ title st1. done (Jumps line title) st1)
+    using line meant st (λ v st1. done (Jumps line (title_in v)) st1)
+    ≡ using line (and_then meant (λ v t. Gives (title_in v) t)) st (λ title st1. done (Jumps line title) st1)
 title_used line (Gives v t) st = refl
 title_used line (Halts h t) st = refl
 
-pub jump_does : (head : Head) (expr : Expr) (b : Stmts) (store : Pairs) (title : List ℕ) → MeansAt (title_given expr store) head.line (Ok title) →
-    (answers : List ℕ) → does_all [] (Cons (Leaf (simple.JumpTo head expr)) b) (at store answers) ≡ done (Jumps head.line title) (at store answers)
+pub jump_does : (head : Head) (expr : Expr) (b : Stmts) (store : Pairs) (title : List ℕ) →
+    MeansAt (title_given expr store) head.line (Ok title) → (answers : List ℕ) →
+    does_all [] (Cons (Leaf (simple.JumpTo head expr)) b) (at store answers) ≡ done (Jumps head.line title) (at store answers)
 jump_does head expr b store title means answers =
     ap (λ d. and_on d (λ st1. does_all [] b st1))
-    (title_used head.line (eval [] store expr []) (at store answers) ∙ ap (λ x. using head.line x (at store answers) (λ t st1. done (Jumps head.line t) st1)) means)
+    (title_used head.line (eval [] store expr []) (at store answers)
+    ∙ ap (λ x. using head.line x (at store answers) (λ t st1. done (Jumps head.line t) st1)) means)
 
-pub jump_halts : (head : Head) (expr : Expr) (b : Stmts) (store : Pairs) (e : Halt) → MeansAt (title_given expr store) head.line (Err e) → Does (Cons (Leaf (simple.JumpTo head expr)) b) store (Err e) b store
+pub jump_halts : (head : Head) (expr : Expr) (b : Stmts) (store : Pairs) (e : Halt) → MeansAt (title_given expr store) head.line (Err e) →
+    Does (Cons (Leaf (simple.JumpTo head expr)) b) store (Err e) b store
 jump_halts head expr b store (halt.Fault line fault) means =
     λ answers. ap (λ d. and_on d (λ st1. does_all [] b st1))
     (title_used head.line (eval [] store expr []) (at store answers)

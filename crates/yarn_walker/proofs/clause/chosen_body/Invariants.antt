@@ -10,6 +10,8 @@ use Rattle.yarn_walker.proofs.clause.chosen_body.Given as goal
 abbrev pub invariant-loop-clause : goal.invariant-loop-clause
 invariant-loop-clause l =
     record {
-      meaning : (answers : List ℕ) → does_clauses [] (clauses_of l.clauses) (at l.store answers) (λ st. does_last [] (last_of l.last) st) ≡ does_clauses [] (clauses_of (drop l.clause-index l.clauses)) (at l.store answers) (λ st. does_last [] (last_of l.last) st);
-      part : (body : Stmts) → IsBodyOf (clauses_of (drop l.clause-index l.clauses)) (last_of l.last) body → IsBodyOf (clauses_of l.clauses) (last_of l.last) body
+      meaning : (answers : List ℕ) → does_clauses [] (clauses_of l.clauses) (at l.store answers) (λ st. does_last [] (last_of l.last) st)
+          ≡ does_clauses [] (clauses_of (drop l.clause-index l.clauses)) (at l.store answers) (λ st. does_last [] (last_of l.last) st);
+      part : (body : Stmts) → IsBodyOf (clauses_of (drop l.clause-index l.clauses)) (last_of l.last) body →
+          IsBodyOf (clauses_of l.clauses) (last_of l.last) body;
     }

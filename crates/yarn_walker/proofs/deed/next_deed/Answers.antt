@@ -1,4 +1,4 @@
-use Rattle.std.proofs.Common.{◌≡◌, List, [], Ok, Some, None, ap, subst, ◌∙◌}
+use Rattle.std.proofs.Common.{[], Ok, Some, None, ap, subst, ◌∙◌}
 use Rattle.yarn_blocks.specs.Tree.{Cons}
 use Rattle.yarn_blocks.specs.View.{stmt_of}
 use Rattle.yarn_meaning.specs.Does.{does_all}
@@ -25,5 +25,5 @@ loop-statement-preserved c =
     let keeps : KeepsTextsFirst first (Ok None) new = subst (λ o. KeepsTextsFirst first (Ok o) new) c.in_default-2.is c.in_ok-deed.ensures.texts in
     record {
       meaning = λ answers. c.loop-statement.invariant.meaning answers ∙ ap (λ s. does_all [] s (at before answers)) c.in-Some.ensures.some ∙ does answers;
-      texts = λ table told. keeps table (subst (λ s. TellsAll table (said_in s)) c.in-Some.ensures.some (c.loop-statement.invariant.texts table told))
+      texts = λ table told. keeps table (subst (λ s. TellsAll table (said_in s)) c.in-Some.ensures.some (c.loop-statement.invariant.texts table told));
     }

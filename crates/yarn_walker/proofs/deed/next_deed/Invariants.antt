@@ -11,7 +11,7 @@ abbrev pub invariant-loop-statement : goal.invariant-loop-statement
 invariant-loop-statement l =
     record {
       meaning : (answers : List ℕ) → does_all [] (rest_of l.fn.rest) (at l.fn.store answers) ≡ does_all [] (rest_of l.rest) (at l.store answers);
-      texts : (table : Table) → TellsAll table (said_in (rest_of l.fn.rest)) → TellsAll table (said_in (rest_of l.rest))
+      texts : (table : Table) → TellsAll table (said_in (rest_of l.fn.rest)) → TellsAll table (said_in (rest_of l.rest));
     }
 
 abbrev pub decreases-loop-statement : goal.decreases-loop-statement

@@ -11,6 +11,6 @@ returns-in_err-offer-clause-meaning c =
     let options = c.args.options.now in
     let i = c.loop-option.option-index in
     rw (p.1, p.2)
-    (offers_halt (options_of options) (options_of (drop i options)) (all_shown c.loop-option.offers.items) c.option-item.result (options_of (drop (i + 1) options)) c.args.store.now
-    c.offer_of.result c.in_err-offer.field-0.0 c.loop-option.invariant.meaning (options_left options i c.option-item.result c.loop-option-test.true c.option-item.is)
-    c.offer_of.ensures.meaning c.in_err-offer.ensures)
+    (offers_halt (options_of options) (options_of (drop i options)) (all_shown c.loop-option.offers.items) c.option-item.result
+    (options_of (drop (i + 1) options)) c.args.store.now c.offer_of.result c.in_err-offer.field-0.0 c.loop-option.invariant.meaning
+    (options_left options i c.option-item.result c.loop-option-test.true c.option-item.is) c.offer_of.ensures.meaning c.in_err-offer.ensures)

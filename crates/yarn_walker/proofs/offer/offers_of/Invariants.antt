@@ -11,6 +11,8 @@ use Rattle.yarn_walker.proofs.offer.offers_of.Given as goal
 abbrev pub invariant-loop-option : goal.invariant-loop-option
 invariant-loop-option l =
     record {
-      meaning : (answers : List ℕ) (next : List Choice → State → Done) → with_choices [] (options_of l.options) [] (at l.store answers) next ≡ with_choices [] (options_of (drop l.option-index l.options)) (all_shown l.offers.items) (at l.store answers) next;
-      texts : map (λ offer. offer.text.now) l.offers.items ++ texts_of (options_of (drop l.option-index l.options)) ≡ texts_of (options_of l.options)
+      meaning : (answers : List ℕ) (next : List Choice → State → Done) →
+          with_choices [] (options_of l.options) [] (at l.store answers) next
+          ≡ with_choices [] (options_of (drop l.option-index l.options)) (all_shown l.offers.items) (at l.store answers) next;
+      texts : map (λ offer. offer.text.now) l.offers.items ++ texts_of (options_of (drop l.option-index l.options)) ≡ texts_of (options_of l.options);
     }
