@@ -20,10 +20,7 @@ pub(crate) fn chosen_body<'p>(
     ensures part { IsPartOf (clauses_of clauses.now) (last_of last.now) result }
 {
     for clause in clauses {
-        let value = at_line(
-            clause.head.line,
-            evaluate(alloc, &clause.condition, store),
-        )?;
+        let value = at_line(clause.head.line, evaluate(alloc, &clause.condition, store))?;
         if is_true(&value) {
             return Ok(clause.body.as_slice());
         }

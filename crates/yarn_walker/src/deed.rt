@@ -73,10 +73,7 @@ fn deed_of<'p>(
         Stmt::Command(text) => Ok(Some(Deed::Command(text, values_in(alloc, text, store)?))),
         Stmt::Options(options) => {
             let options = options.as_slice();
-            Ok(Some(Deed::Options(
-                options,
-                offers_of(alloc, options, store)?,
-            )))
+            Ok(Some(Deed::Options(options, offers_of(alloc, options, store)?)))
         }
         Stmt::If(clauses, last, _) => {
             rest.push(chosen_body(alloc, clauses.as_slice(), last, store)?)?;

@@ -1,9 +1,9 @@
 //! The options of a group as they are shown.
-ghost use Rattle.std.specs.Prelude.{◌≡◌, [], All, IfOk, OnOk};
+ghost use Rattle.std.specs.Prelude.{◌≡◌, [], IfOk};
 ghost use Rattle.yarn_blocks.specs.View.{options_of};
 ghost use Rattle.yarn_meaning.specs.Does.{any_open as any_open_of, asked};
 ghost use Rattle.yarn_walker.specs.Means.{Means};
-ghost use Rattle.yarn_walker.specs.Offers.{shown_as, all_shown, Offers, OffersOne, AreOf};
+ghost use Rattle.yarn_walker.specs.Offers.{all_shown, Offers, OffersOne, AreOf};
 
 use crate::evaluate::{evaluate, evaluate_all, is_true};
 use crate::halt::{Halt, at_line};
