@@ -1,0 +1,96 @@
+-- What an answer does at a group that is shown.
+use Rattle.std.proofs.Common.{◌≡◌, ℕ, zero, suc, ◌<◌, ◌≤◌, ◌+◌, ◌-◌, Bool, true, false, nat_eq, if◌then◌else◌, List, [], ◌∷◌, ◌++◌, length, take, drop, Option, Some, None, refl, sym, ap, subst, ◌∙◌, arith, append_assoc}
+use Rattle.std.proofs.Math.ListN.{length-drop}
+use Rattle.yarn_blocks.specs.Tree.{Stmts, Nil, Cons, stmts_then}
+use Rattle.yarn_code.specs.Answer.{Answered, answered, answer_of, taken, to_lf}
+use Rattle.yarn_code.specs.declared.event.Event.{Event}
+use Rattle.yarn_code.specs.declared.event.Event.TheVariants as event
+use Rattle.yarn_code.specs.declared.event.Choice.{Choice}
+use Rattle.yarn_code.specs.Moments.{State, Moment, moment}
+use Rattle.yarn_meaning.specs.Does.{Exit, Through, Jumps, Stops, Halted, Waiting, Done, done, prefixed, showing, goes_on, and_on, with_answers, chooses, less_one, at_answer, picked, does, does_all}
+
+-- ---- one after the other
+
+goes_prefixed : (ms : List Moment) (x : Exit) (more : List Moment) (st : State) (next : State → Done) →
+    goes_on x (ms ++ more) st next ≡ prefixed ms (goes_on x more st next)
+goes_prefixed ms Through more st next = ap (λ l. record { moments = l; exit = (next st).exit; state = (next st).state }) (append_assoc ms more (next st).moments)
+goes_prefixed ms (Jumps line title) more st next = refl
+goes_prefixed ms (Stops line) more st next = refl
+goes_prefixed ms (Halted line halt) more st next = refl
+goes_prefixed ms Waiting more st next = refl
+
+goes_twice : (x : Exit) (ms : List Moment) (st : State) (f g : State → Done) →
+    and_on (goes_on x ms st f) g ≡ goes_on x ms st (λ st1. and_on (f st1) g)
+goes_twice Through ms st f g = goes_prefixed ms (f st).exit (f st).moments (f st).state g
+goes_twice (Jumps line title) ms st f g = refl
+goes_twice (Stops line) ms st f g = refl
+goes_twice (Halted line halt) ms st f g = refl
+goes_twice Waiting ms st f g = refl
+
+goes_same : (x : Exit) (ms : List Moment) (st : State) (f g : State → Done) → ((st1 : State) → f st1 ≡ g st1) → goes_on x ms st f ≡ goes_on x ms st g
+goes_same Through ms st f g same = ap (prefixed ms) (same st)
+goes_same (Jumps line title) ms st f g same = refl
+goes_same (Stops line) ms st f g same = refl
+goes_same (Halted line halt) ms st f g same = refl
+goes_same Waiting ms st f g same = refl
+
+-- a list that stands before another is done before it
+pub does_then : (a b : Stmts) (st : State) → does_all [] (stmts_then a b) st ≡ and_on (does_all [] a st) (λ st1. does_all [] b st1)
+does_then Nil b st = refl
+does_then (Cons s a) b st =
+    let d : Done = does [] s st in
+    goes_same d.exit d.moments d.state _ _ (does_then a b) ∙ sym (goes_twice d.exit d.moments d.state (λ st1. does_all [] a st1) (λ st1. does_all [] b st1))
+
+pub shown_on : (e : Event) (st : State) (d : Done) (next : State → Done) → and_on (showing e st d) next ≡ showing e st (and_on d next)
+shown_on e st d next = goes_prefixed (moment e st ∷ []) d.exit d.moments d.state next
+
+-- ---- more room than the answers take
+
+length_to_lf : (b : ℕ) (bytes : List ℕ) → 0 < length (to_lf (b ∷ bytes))
+unfolding to_lf
+length_to_lf b bytes = one (nat_eq b 10)
+  where
+    one : (t : Bool) → 0 < length (if t then b ∷ [] else b ∷ to_lf bytes)
+    one true = omega arith
+    one false = omega arith
+
+-- an answer takes a byte at least
+pub answer_less : (bytes : List ℕ) (a : Answered) → answer_of bytes ≡ Some a → length a.rest < length bytes
+unfolding answer_of taken
+answer_less [] a is = absurd (cc)
+answer_less (b ∷ bytes) a is =
+    let one : 0 < length (taken (b ∷ bytes)) = length_to_lf b (take 4095 bytes) in
+    let same : answered (b ∷ bytes) ≡ a = cc in
+    let left : length a.rest ≡ length (b ∷ bytes) - length (taken (b ∷ bytes)) = ap (λ x. length x.rest) (sym same) ∙ length-drop {A = ℕ} (length (taken (b ∷ bytes))) (b ∷ bytes) in
+    omega arith
+
+answer_none : answer_of [] ≡ None
+unfolding answer_of
+answer_none = refl
+
+at_none : (o : Option Answered) (d : Done) (f : ℕ → List ℕ → Done) → o ≡ None → at_answer o d f ≡ d
+at_none None d f is = refl
+at_none (Some a) d f is = absurd (cc)
+
+at_same : (o : Option Answered) (d : Done) (f g : ℕ → List ℕ → Done) → ((a : Answered) → o ≡ Some a → f a.number a.rest ≡ g a.number a.rest) →
+    at_answer o d f ≡ at_answer o d g
+at_same None d f g same = refl
+at_same (Some a) d f g same = same a refl
+
+no_bytes : (bytes : List ℕ) → length bytes ≤ 0 → answer_of bytes ≡ None
+no_bytes [] l = answer_none
+no_bytes (b ∷ bytes) l = absurd (omega arith)
+
+picked_none : (most : ℕ) (cs : List Choice) (st : State) (next : ℕ → State → Done) → length st.answers ≤ 0 → picked most cs st next ≡ done Waiting st
+picked_none zero cs st next l = refl
+picked_none (suc most) cs st next l = at_none (answer_of st.answers) (done Waiting st) _ (no_bytes st.answers l)
+
+pub picked_same : (most more : ℕ) (cs : List Choice) (st : State) (next : ℕ → State → Done) → length st.answers ≤ most → length st.answers ≤ more →
+    picked most cs st next ≡ picked more cs st next
+picked_same zero more cs st next l m = sym (picked_none more cs st next l)
+picked_same (suc most) zero cs st next l m = picked_none (suc most) cs st next m
+picked_same (suc most) (suc more) cs st next l m =
+    at_same (answer_of st.answers) (done Waiting st) _ _
+    (λ a is. let less : length a.rest < length st.answers = answer_less st.answers a is in
+    ap (λ d. if chooses a.number cs then next (less_one a.number) (with_answers a.rest st) else showing event.Rejected (with_answers a.rest st) d)
+    (picked_same most more cs (with_answers a.rest st) next (omega arith) (omega arith)))
