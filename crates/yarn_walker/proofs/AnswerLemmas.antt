@@ -1,13 +1,18 @@
 -- What an answer does at a group that is shown.
 use Rattle.std.proofs.Common.{◌≡◌, ℕ, zero, suc, ◌<◌, ◌≤◌, ◌+◌, ◌-◌, Bool, true, false, nat_eq, if◌then◌else◌, List, [], ◌∷◌, ◌++◌, length, take, drop, Option, Some, None, refl, sym, ap, subst, ◌∙◌, arith, append_assoc}
 use Rattle.std.proofs.Math.ListN.{length-drop}
-use Rattle.yarn_blocks.specs.Tree.{Stmts, Nil, Cons, stmts_then}
+use Rattle.yarn_blocks.specs.Tree.{Stmts, Nil, Cons, Options, stmts_then}
+use Rattle.yarn_tree.specs.Trees.{FileTree}
 use Rattle.yarn_code.specs.Answer.{Answered, answered, answer_of, taken, to_lf}
 use Rattle.yarn_code.specs.declared.event.Event.{Event}
 use Rattle.yarn_code.specs.declared.event.Event.TheVariants as event
 use Rattle.yarn_code.specs.declared.event.Choice.{Choice}
-use Rattle.yarn_code.specs.Moments.{State, Moment, moment}
-use Rattle.yarn_meaning.specs.Does.{Exit, Through, Jumps, Stops, Halted, Waiting, Done, done, prefixed, showing, goes_on, and_on, with_answers, chooses, less_one, at_answer, picked, does, does_all}
+use Rattle.yarn_code.specs.Moments.{Pairs, State, Moment, moment, emit}
+use Rattle.yarn_meaning.specs.Does.{Exit, Through, Jumps, Stops, Halted, Waiting, Done, done, prefixed, showing, goes_on, and_on, with_answers, chooses, less_one, at_answer, picked, waits, any_open, group_line, does, does_all, does_option}
+use Rattle.yarn_meaning.specs.First.{Placed, after, exits_of, in_body, from}
+use Rattle.yarn_walker.specs.States.{at}
+use Rattle.yarn_walker.specs.Walk.{at_group}
+use Rattle.yarn_walker.proofs.FuelLemmas.{emit_after}
 
 -- ---- one after the other
 
@@ -94,3 +99,43 @@ picked_same (suc most) (suc more) cs st next l m =
     (λ a is. let less : length a.rest < length st.answers = answer_less st.answers a is in
     ap (λ d. if chooses a.number cs then next (less_one a.number) (with_answers a.rest st) else showing event.Rejected (with_answers a.rest st) d)
     (picked_same most more cs (with_answers a.rest st) next (omega arith) (omega arith)))
+
+-- ---- an answer
+
+waits_open : (line : ℕ) (cs : List Choice) (st : State) (next : ℕ → State → Done) → any_open cs ≡ true → waits line cs st next ≡ picked (length st.answers) cs st next
+waits_open line cs st next is = rw is refl
+
+module _ (cs : List Choice) (store : Pairs) (next : ℕ → State → Done) (number : ℕ) (rest : List ℕ) where
+  picked_chosen : (bytes : List ℕ) → answer_of bytes ≡ Some (record { number = number; rest = rest }) → chooses number cs ≡ true →
+      picked (length bytes) cs (at store bytes) next ≡ next (less_one number) (at store rest)
+  picked_chosen [] is chosen = absurd (cc (answer_none))
+  picked_chosen (b ∷ bytes) is chosen = rw (is, chosen) refl
+
+  picked_rejected : (bytes : List ℕ) → answer_of bytes ≡ Some (record { number = number; rest = rest }) → chooses number cs ≡ false →
+      picked (length bytes) cs (at store bytes) next ≡ showing event.Rejected (at store rest) (picked (length rest) cs (at store rest) next)
+  picked_rejected [] is rejected = absurd (cc (answer_none))
+  picked_rejected (b ∷ bytes) is rejected =
+      let less : length rest < length (b ∷ bytes) = answer_less (b ∷ bytes) (record { number = number; rest = rest }) is in
+      rw (is, rejected) (ap (showing event.Rejected (at store rest)) (picked_same (length bytes) (length rest) cs (at store rest) next (omega arith) (omega arith)))
+
+module _ (files : List FileTree) (n : Placed) (os : Options) (cs : List Choice) (rest : Stmts) (store : Pairs) (number : ℕ) (bytes left : List ℕ) where
+  -- where an option is chosen, its body is done before the statements behind the group
+  pub chosen_comes : (body : Stmts) → any_open cs ≡ true → chooses number cs ≡ true →
+      ((st : State) → does_option [] os (less_one number) st ≡ does_all [] body st) → answer_of bytes ≡ Some (record { number = number; rest = left }) → (k : ℕ) →
+      at_group files k n os cs rest (at store bytes) k ≡ in_body [] (from [] files k) n (stmts_then body rest) (at store left) k
+  chosen_comes body asks chosen is_body is k =
+      ap (λ d. after (and_on d (λ st1. does_all [] rest st1)) (exits_of (from [] files k) n) k)
+      (waits_open (group_line os) cs (at store bytes) _ asks ∙ picked_chosen cs store (λ m st. does_option [] os m st) number left bytes is chosen ∙ is_body (at store left))
+      ∙ ap (λ d. after d (exits_of (from [] files k) n) k) (sym (does_then body rest (at store left)))
+
+  -- where none is chosen, that is an event, and the group is asked again
+  pub rejected_comes : any_open cs ≡ true → chooses number cs ≡ false → answer_of bytes ≡ Some (record { number = number; rest = left }) → (k : ℕ) →
+      at_group files k n os cs rest (at store bytes) k ≡ emit (moment event.Rejected (at store left)) (λ j. at_group files j n os cs rest (at store left) j) k
+  rejected_comes asks rejected is k =
+      let next : ℕ → State → Done = λ m st. does_option [] os m st in
+      let waiting : Done = waits (group_line os) cs (at store left) next in
+      ap (λ d. after (and_on d (λ st1. does_all [] rest st1)) (exits_of (from [] files k) n) k)
+      (waits_open (group_line os) cs (at store bytes) next asks ∙ picked_rejected cs store next number left bytes is rejected
+      ∙ ap (showing event.Rejected (at store left)) (sym (waits_open (group_line os) cs (at store left) next asks)))
+      ∙ ap (λ d. after d (exits_of (from [] files k) n) k) (shown_on event.Rejected (at store left) waiting (λ st1. does_all [] rest st1))
+      ∙ emit_after files n (moment event.Rejected (at store left)) (and_on waiting (λ st1. does_all [] rest st1)) k

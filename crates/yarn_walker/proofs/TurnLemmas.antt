@@ -1,11 +1,12 @@
 -- What the turns of a walk keep.
-use Rattle.std.proofs.Common.{◌≡◌, ℕ, suc, Bool, true, false, nat_eq, if◌then◌else◌, List, [], ◌∷◌, ◌++◌, Option, Some, None, refl, sym, subst}
+use Rattle.std.proofs.Common.{◌≡◌, ℕ, suc, Bool, true, false, nat_eq, if◌then◌else◌, List, [], ◌∷◌, ◌++◌, Option, Some, None, refl, sym, ap, subst, ◌∙◌, append_assoc}
 use Rattle.std.specs.List.{All}
 use Rattle.std.specs.Cmp.Lexicographic.{pointwise}
-use Rattle.std.proofs.lemmas.List.Elements.{All-nil, All-cons, All-head, All-tail, All-append}
+use Rattle.std.proofs.lemmas.List.Elements.{All-nil, All-cons, All-head, All-tail, All-append, All-same}
+use Rattle.yarn_blocks.specs.Tree.{Stmts, Nil, Cons, stmts_then}
 use Rattle.yarn_tree.specs.Trees.{NodeTree, FileTree}
 use Rattle.yarn_meaning.specs.First.{Placed, nodes_at, nodes_from, first_titled, find}
-use Rattle.yarn_meaning.specs.Texts.{Table, Tells, TellsAll, said_in, said_in_nodes, said_in_files}
+use Rattle.yarn_meaning.specs.Texts.{Table, Tells, TellsAll, said_in, said_in_one, said_in_nodes, said_in_files}
 
 -- ---- texts
 
@@ -49,3 +50,10 @@ tells_files table file (f ∷ files) told =
 pub found_tells : (table : Table) (title : List ℕ) (files : List FileTree) (n : Placed) →
     find title files ≡ Some n → TellsAll table (said_in_files files) → TellsAll table (said_in n.node.body)
 found_tells table title files n is told = titled_is_one (IsTold table) title (nodes_from 0 files) n (tells_files table 0 files told) is
+
+said_then : (a b : Stmts) → said_in (stmts_then a b) ≡ said_in a ++ said_in b
+said_then Nil b = refl
+said_then (Cons s a) b = ap (λ l. said_in_one s ++ l) (said_then a b) ∙ sym (append_assoc (said_in_one s) (said_in a) (said_in b))
+
+pub tells_then : (table : Table) (a b : Stmts) → TellsAll table (said_in a) → TellsAll table (said_in b) → TellsAll table (said_in (stmts_then a b))
+tells_then table a b one two = All-same (Tells table) (said_in (stmts_then a b)) (said_in a ++ said_in b) (said_then a b) (All-append (Tells table) (said_in a) (said_in b) one two)
