@@ -1,18 +1,26 @@
 -- What an answer does at a group that is shown.
-use Rattle.std.proofs.Common.{◌≡◌, ℕ, zero, suc, ◌<◌, ◌≤◌, ◌+◌, ◌-◌, Bool, true, false, nat_eq, if◌then◌else◌, List, [], ◌∷◌, ◌++◌, length, take, drop, Option, Some, None, refl, sym, ap, subst, ◌∙◌, arith, append_assoc}
-use Rattle.std.proofs.Math.ListN.{length-drop}
+use Rattle.std.proofs.Common.{◌≡◌, ℕ, zero, suc, ◌<◌, ◌≤◌, ◌+◌, ◌-◌, Bool, true, false, nat_eq, if◌then◌else◌, List, [], ◌∷◌, ◌++◌, length, take, drop, Option, Some, None, refl, sym, ap, subst, ◌∙◌, arith, append_assoc, get_or, Bor}
+use Rattle.std.proofs.Math.ListN.{length-drop, length-map}
+use Rattle.std.proofs.lemmas.List.Elements.{All-tail}
+use Rattle.yarn_blocks.specs.declared.tree.Stmt.{Stmt}
+use Rattle.yarn_blocks.specs.declared.tree.OptionItem.{OptionItem}
 use Rattle.yarn_blocks.specs.Tree.{Stmts, Nil, Cons, Options, stmts_then}
+use Rattle.yarn_blocks.specs.View.{stmts_of, options_of}
 use Rattle.yarn_tree.specs.Trees.{FileTree}
 use Rattle.yarn_code.specs.Answer.{Answered, answered, answer_of, taken, to_lf}
 use Rattle.yarn_code.specs.declared.event.Event.{Event}
 use Rattle.yarn_code.specs.declared.event.Event.TheVariants as event
 use Rattle.yarn_code.specs.declared.event.Choice.{Choice}
 use Rattle.yarn_code.specs.Moments.{Pairs, State, Moment, moment, emit}
-use Rattle.yarn_meaning.specs.Does.{Exit, Through, Jumps, Stops, Halted, Waiting, Done, done, prefixed, showing, goes_on, and_on, with_answers, chooses, less_one, at_answer, picked, waits, any_open, group_line, does, does_all, does_option}
+use Rattle.yarn_meaning.specs.Does.{Exit, Through, Jumps, Stops, Halted, Waiting, Done, done, prefixed, showing, goes_on, and_on, with_answers, is_open, chooses, less_one, at_answer, picked, waits, any_open, group_line, does, does_all, does_option}
 use Rattle.yarn_meaning.specs.First.{Placed, after, exits_of, in_body, from}
+use Rattle.yarn_meaning.specs.Texts.{Table, Tells, TellsAll, said_in, said_in_options}
+use Rattle.yarn_walker.specs.declared.offer.Offer.{Offer}
+use Rattle.yarn_walker.specs.Offers.{all_shown, texts_of, AreOf}
 use Rattle.yarn_walker.specs.States.{at}
-use Rattle.yarn_walker.specs.Walk.{at_group}
+use Rattle.yarn_walker.specs.Walk.{at_group, Opens}
 use Rattle.yarn_walker.proofs.FuelLemmas.{emit_after}
+use Rattle.yarn_walker.proofs.TurnLemmas.{All-front, All-behind}
 
 -- ---- one after the other
 
@@ -139,3 +147,55 @@ module _ (files : List FileTree) (n : Placed) (os : Options) (cs : List Choice) 
       ∙ ap (showing event.Rejected (at store left)) (sym (waits_open (group_line os) cs (at store left) next asks)))
       ∙ ap (λ d. after d (exits_of (from [] files k) n) k) (shown_on event.Rejected (at store left) waiting (λ st1. does_all [] rest st1))
       ∙ emit_after files n (moment event.Rejected (at store left)) (and_on waiting (λ st1. does_all [] rest st1)) k
+
+-- ---- the option that an answer chooses
+
+all_shown-past : (offers : List Offer) (at : ℕ) → length offers ≤ at → is_open at (all_shown offers) ≡ false
+all_shown-past [] at past = refl
+all_shown-past (o ∷ offers) zero past = absurd (omega arith)
+all_shown-past (o ∷ offers) (suc at) past = all_shown-past offers at (omega arith)
+
+all_shown-at : (offers : List Offer) (at : ℕ) (d : Offer) → at < length offers → is_open at (all_shown offers) ≡ (get_or offers at d).available
+all_shown-at [] at d there = absurd (omega arith)
+all_shown-at (o ∷ offers) zero d there = refl
+all_shown-at (o ∷ offers) (suc at) d there = all_shown-at offers at d (omega arith)
+
+option_at : (options : List OptionItem) (at : ℕ) (d : OptionItem) → at < length options → (st : State) →
+    does_option [] (options_of options) at st ≡ does_all [] (stmts_of (get_or options at d).body) st
+option_at [] at d there st = absurd (omega arith)
+option_at (o ∷ options) zero d there st = refl
+option_at (o ∷ options) (suc at) d there st = option_at options at d (omega arith) st
+
+tells_option : (table : Table) (options : List OptionItem) (at : ℕ) (d : OptionItem) → at < length options →
+    TellsAll table (said_in_options (options_of options)) → TellsAll table (said_in (stmts_of (get_or options at d).body))
+tells_option table [] at d there told = absurd (omega arith)
+tells_option table (o ∷ options) zero d there told =
+    All-front (Tells table) (said_in (stmts_of o.body)) (said_in_options (options_of options)) (All-tail (Tells table) o.text _ told)
+tells_option table (o ∷ options) (suc at) d there told =
+    tells_option table options at d (omega arith)
+    (All-behind (Tells table) (said_in (stmts_of o.body)) (said_in_options (options_of options)) (All-tail (Tells table) o.text _ told))
+
+length_texts : (options : List OptionItem) → length (texts_of (options_of options)) ≡ length options
+length_texts [] = refl
+length_texts (o ∷ options) = ap suc (length_texts options)
+
+-- as many are shown as there are
+pub length_offers : (options : List OptionItem) (offers : List Offer) → AreOf (options_of options) offers → length offers ≡ length options
+length_offers options offers are = sym (length-map offers (λ (offer : Offer). offer.text.now)) ∙ ap length are ∙ length_texts options
+
+pub closed_past : (offers : List Offer) (os : Options) (number at : ℕ) → number ≡ suc at → length offers ≤ at → Opens (all_shown offers) os number None
+closed_past offers os number at is past = rw is (all_shown-past offers at past)
+
+pub closed_at : (offers : List Offer) (number at : ℕ) (offer : Offer) → number ≡ suc at → at < length offers → offer ≡ get_or offers at offer →
+    offer.available ≡ false → chooses number (all_shown offers) ≡ false
+closed_at offers number at offer is there one closed = rw is (all_shown-at offers at offer there ∙ ap (λ o. o.available) (sym one) ∙ closed)
+
+pub open_at : (offers : List Offer) (options : List OptionItem) (number at : ℕ) (offer : Offer) (item : OptionItem) (body : Bor (List Stmt)) →
+    number ≡ suc at → at < length offers → offer ≡ get_or offers at offer → offer.available ≡ true →
+    at < length options → item ≡ get_or options at item → body.now ≡ item.body → Opens (all_shown offers) (options_of options) number (Some body)
+open_at offers options number at offer item body is there one asks here other same =
+    let whole : body.now ≡ (get_or options at item).body = same ∙ ap (λ o. o.body) other in
+    subst (λ m. Opens (all_shown offers) (options_of options) m (Some body)) (sym is)
+    (all_shown-at offers at offer there ∙ ap (λ o. o.available) (sym one) ∙ asks,
+    λ st. rw whole (option_at options at item here st),
+    λ table told. subst (λ b. TellsAll table (said_in (stmts_of b))) (sym whole) (tells_option table options at item here told))
