@@ -1,12 +1,26 @@
 -- What the turns of a walk keep.
-use Rattle.std.proofs.Common.{◌≡◌, ℕ, suc, Bool, true, false, nat_eq, if◌then◌else◌, List, [], ◌∷◌, ◌++◌, Option, Some, None, refl, sym, ap, subst, ◌∙◌, append_assoc}
+use Rattle.std.proofs.Common.{◌≡◌, ℕ, suc, Bool, true, false, nat_eq, if◌then◌else◌, List, [], ◌∷◌, ◌++◌, Option, Some, None, refl, sym, ap, subst, ◌∙◌, append_assoc, zero, Result, Ok, Err, IfOk, arith}
 use Rattle.std.specs.List.{All}
 use Rattle.std.specs.Cmp.Lexicographic.{pointwise}
 use Rattle.std.proofs.lemmas.List.Elements.{All-nil, All-cons, All-head, All-tail, All-append, All-same}
 use Rattle.yarn_blocks.specs.Tree.{Stmts, Nil, Cons, stmts_then}
 use Rattle.yarn_tree.specs.Trees.{NodeTree, FileTree}
-use Rattle.yarn_meaning.specs.First.{Placed, nodes_at, nodes_from, first_titled, find}
+use Rattle.yarn_base.specs.declared.memory.Memory.{Memory}
+use Rattle.yarn_value.specs.declared.fault.RunFault.TheVariants as run_fault
+use Rattle.yarn_code.specs.Moments.{Pairs, State, Stand, Behaviour, stands, Faults}
+use Rattle.yarn_meaning.specs.First.{Placed, nodes_at, nodes_from, first_titled, find, from, faults_at}
 use Rattle.yarn_meaning.specs.Texts.{Table, Tells, TellsAll, said_in, said_in_one, said_in_nodes, said_in_files}
+use Rattle.yarn_walker.specs.States.{at}
+use Rattle.yarn_walker.specs.Faults.{fault_of}
+use Rattle.yarn_walker.specs.Titles.{placed}
+use Rattle.yarn_walker.specs.Walk.{Coming, Turned, arrives, jumping, leaving}
+use Rattle.yarn_walker.specs.declared.ends.FaultAt.{FaultAt}
+use Rattle.yarn_walker.specs.declared.titles.NodeAt.{NodeAt}
+use Rattle.yarn_walker.specs.declared.walk.Seat.TheVariants.{Enters, Fails}
+use Rattle.yarn_walker.specs.declared.walk.Turn.{Turn}
+use Rattle.yarn_walker.specs.declared.walk.Turn.TheVariants as turn
+use Rattle.yarn_walker.specs.declared.walk.Walk.{Walk}
+use Rattle.yarn_walker.proofs.FuelLemmas.{leaves_same}
 
 -- ---- texts
 
@@ -57,3 +71,45 @@ said_then (Cons s a) b = ap (λ l. said_in_one s ++ l) (said_then a b) ∙ sym (
 
 pub tells_then : (table : Table) (a b : Stmts) → TellsAll table (said_in a) → TellsAll table (said_in b) → TellsAll table (said_in (stmts_then a b))
 tells_then table a b one two = All-same (Tells table) (said_in (stmts_then a b)) (said_in a ++ said_in b) (said_then a b) (All-append (Tells table) (said_in a) (said_in b) one two)
+
+-- ---- what is to come
+
+-- a turn of what comes is one of what comes the same way
+pub turned_same : (c d : Coming) (t : Turn) (new : Walk) → ((answers : List ℕ) (k : ℕ) → c k answers k ≡ d k answers k) → Turned d t new → Turned c t new
+turned_same c d (turn.NodeStart title) new same h = λ answers k. same answers k ∙ h answers k
+turned_same c d (turn.Line text values) new same h = λ answers k. same answers k ∙ h answers k
+turned_same c d (turn.Command text values) new same h = λ answers k. same answers k ∙ h answers k
+turned_same c d turn.Options new same h = λ answers k. same answers k ∙ h answers k
+turned_same c d (turn.NodeEnd title) new same h = λ answers k. same answers k ∙ h answers k
+turned_same c d turn.End new same h = λ answers k. same answers k ∙ h answers k
+turned_same c d (turn.Faults f) new same h = λ answers k. same answers k ∙ h answers k
+
+pub ok_turned_same : (c d : Coming) (r : Result Turn Memory) (new : Walk) → ((answers : List ℕ) (k : ℕ) → c k answers k ≡ d k answers k) →
+    IfOk r (λ t. Turned d t new) → IfOk r (λ t. Turned c t new)
+ok_turned_same c d (Ok t) new same h = turned_same c d t new same h
+ok_turned_same c d (Err e) new same h = tt
+
+-- ---- how a node is left
+
+enters_same : (files : List FileTree) (title : List ℕ) (m : NodeAt) → Some (placed m) ≡ find title files → (st : State) (none : Behaviour) (k j : ℕ) →
+    k ≡ suc j → from [] files k title st none j ≡ arrives files k (Enters m) st j
+enters_same files title m is st none zero j e = absurd (omega arith)
+enters_same files title m is st none (suc k) j e = rw (← is) refl
+
+fails_same : (files : List FileTree) (title : List ℕ) (f : FaultAt) → None ≡ find title files → (st : State) (s : Stand) → Faults (fault_of f) ≡ s → (k j : ℕ) →
+    k ≡ suc j → from [] files k title st (stands s st) j ≡ arrives files k (Fails f) st j
+fails_same files title f is st s one zero j e = absurd (omega arith)
+fails_same files title f is st s one (suc k) j e = rw (← is) (ap (λ x. stands x st j) (sym one))
+
+-- a jump to the title of a node leaves for that node
+pub jumping_enters : (files : List FileTree) (n m : NodeAt) (line : ℕ) (title : List ℕ) (store : Pairs) → Some (placed m) ≡ find title files →
+    (answers : List ℕ) (k : ℕ) → jumping files n line title store k answers k ≡ leaving files n line (Enters m) store k answers k
+jumping_enters files n m line title store is answers k =
+    leaves_same (placed n) line (at store answers) _ _ k (λ st j e. enters_same files title m is st _ k j e)
+
+-- a jump to no node's title leaves for a fault
+pub jumping_fails : (files : List FileTree) (n : NodeAt) (f : FaultAt) (line : ℕ) (title : List ℕ) (store : Pairs) → None ≡ find title files →
+    Faults (fault_of f) ≡ faults_at (placed n) line (run_fault.UnknownNode title) →
+    (answers : List ℕ) (k : ℕ) → jumping files n line title store k answers k ≡ leaving files n line (Fails f) store k answers k
+jumping_fails files n f line title store is one answers k =
+    leaves_same (placed n) line (at store answers) _ _ k (λ st j e. fails_same files title f is st _ one k j e)

@@ -160,7 +160,7 @@ impl<'p> Walk<'p> {
         node: NodeAt<'p>,
         mut rest: Frames<'p>,
     ) -> Result<Turn<'p>, Memory>
-        requires titles { HasAll self.old.titles }
+        requires sound { IsSound self.old }
         requires told { WithTexts (files_of self.old) (λ table. TellsAll table (said_in (rest_of rest))) }
         ensures meaning { IfOk result (λ turn. Turned (within_node (files_of self.old) node.entry (rest_of rest.entry) self.old.store) turn self.new) }
         ensures texts { IfOk result (λ turn. TellsTurn self.old turn self.new) }
@@ -193,7 +193,7 @@ impl<'p> Walk<'p> {
         offers: Vec<Offer<'p>>,
         rest: Frames<'p>,
     ) -> Turn<'p>
-        requires titles { HasAll self.old.titles }
+        requires sound { IsSound self.old }
         requires group { AreOf (options_of options.now) offers.items }
         requires options_told { WithTexts (files_of self.old) (λ table. TellsAll table (said_in_options (options_of options.now))) }
         requires rest_told { WithTexts (files_of self.old) (λ table. TellsAll table (said_in (rest_of rest))) }
@@ -219,7 +219,7 @@ impl<'p> Walk<'p> {
         line: u32,
         title: &Text,
     ) -> Result<Turn<'p>, Memory>
-        requires titles { HasAll self.old.titles }
+        requires sound { IsSound self.old }
         ensures meaning { IfOk result (λ turn. Turned (jumping (files_of self.old) node.entry line title.now self.old.store) turn self.new) }
         ensures texts { IfOk result (λ turn. TellsTurn self.old turn self.new) }
         ensures sound { OnOk result (StaysSound self.old self.new) }
@@ -239,7 +239,7 @@ impl<'p> Walk<'p> {
         line: u32,
         next: Seat<'p>,
     ) -> Result<Turn<'p>, Memory>
-        requires titles { HasAll self.old.titles }
+        requires sound { IsSound self.old }
         requires arrival { is_arrival next ≡ true }
         requires told { WithTexts (files_of self.old) (λ table. ToldSeat table next) }
         ensures meaning { IfOk result (λ turn. Turned (leaving (files_of self.old) node.entry line next.entry self.old.store) turn self.new) }
