@@ -3,24 +3,30 @@ use Rattle.std.proofs.Common.{◌≡◌, ℕ, suc, Bool, true, false, nat_eq, if
 use Rattle.std.specs.List.{All}
 use Rattle.std.specs.Cmp.Lexicographic.{pointwise}
 use Rattle.std.proofs.lemmas.List.Elements.{All-nil, All-cons, All-head, All-tail, All-append, All-same}
+use Rattle.yarn_blocks.specs.declared.tree.OptionItem.{OptionItem}
+use Rattle.yarn_blocks.specs.View.{options_of}
 use Rattle.yarn_blocks.specs.Tree.{Stmts, Nil, Cons, stmts_then}
 use Rattle.yarn_tree.specs.Trees.{NodeTree, FileTree}
 use Rattle.yarn_base.specs.declared.memory.Memory.{Memory}
 use Rattle.yarn_value.specs.declared.fault.RunFault.TheVariants as run_fault
-use Rattle.yarn_code.specs.Moments.{Pairs, State, Stand, Behaviour, stands, Faults}
+use Rattle.yarn_code.specs.Moments.{Pairs, State, Stand, Behaviour, moment, stands, emit, Faults}
+use Rattle.yarn_code.specs.declared.event.Event.TheVariants as event
+use Rattle.yarn_meaning.specs.Does.{and_on, waits, any_open, group_line, does_all, does_option}
 use Rattle.yarn_meaning.specs.First.{Placed, nodes_at, nodes_from, first_titled, find, from, faults_at}
 use Rattle.yarn_meaning.specs.Texts.{Table, Tells, TellsAll, said_in, said_in_one, said_in_nodes, said_in_files}
 use Rattle.yarn_walker.specs.States.{at}
 use Rattle.yarn_walker.specs.Faults.{fault_of}
 use Rattle.yarn_walker.specs.Titles.{placed}
-use Rattle.yarn_walker.specs.Walk.{Coming, Turned, arrives, jumping, leaving}
+use Rattle.yarn_walker.specs.Walk.{Coming, Turned, at_group, with_group, arrives, jumping, leaving}
+use Rattle.yarn_walker.specs.Offers.{all_shown}
+use Rattle.yarn_walker.specs.declared.offer.Offer.{Offer}
 use Rattle.yarn_walker.specs.declared.ends.FaultAt.{FaultAt}
 use Rattle.yarn_walker.specs.declared.titles.NodeAt.{NodeAt}
 use Rattle.yarn_walker.specs.declared.walk.Seat.TheVariants.{Enters, Fails}
 use Rattle.yarn_walker.specs.declared.walk.Turn.{Turn}
 use Rattle.yarn_walker.specs.declared.walk.Turn.TheVariants as turn
 use Rattle.yarn_walker.specs.declared.walk.Walk.{Walk}
-use Rattle.yarn_walker.proofs.FuelLemmas.{leaves_same}
+use Rattle.yarn_walker.proofs.FuelLemmas.{emit_after, leaves_same}
 
 -- ---- texts
 
@@ -113,3 +119,20 @@ pub jumping_fails : (files : List FileTree) (n : NodeAt) (f : FaultAt) (line : �
     (answers : List ℕ) (k : ℕ) → jumping files n line title store k answers k ≡ leaving files n line (Fails f) store k answers k
 jumping_fails files n f line title store is one answers k =
     leaves_same (placed n) line (at store answers) _ _ k (λ st j e. fails_same files title f is st _ one k j e)
+
+-- ---- how a group is shown
+
+-- where no option can be chosen, the run faults behind it
+pub group_fails : (files : List FileTree) (n : NodeAt) (os : List OptionItem) (offers : List Offer) (rest : Stmts) (store : Pairs) (f : FaultAt) →
+    any_open (all_shown offers) ≡ false → Faults (fault_of f) ≡ faults_at (placed n) (group_line (options_of os)) run_fault.NoOpenOption →
+    (answers : List ℕ) (k : ℕ) → with_group files n os offers rest store k answers k ≡
+    emit (moment (event.Options (all_shown offers)) (at store answers)) (stands (Faults (fault_of f)) (at store answers)) k
+group_fails files n os offers rest store f closed fault answers k = rw (closed, fault) refl
+
+-- else it asks for an answer
+pub group_asks : (files : List FileTree) (n : NodeAt) (os : List OptionItem) (offers : List Offer) (rest : Stmts) (store : Pairs) →
+    (answers : List ℕ) (k : ℕ) → with_group files n os offers rest store k answers k ≡
+    emit (moment (event.Options (all_shown offers)) (at store answers)) (λ j. at_group files j (placed n) (options_of os) (all_shown offers) rest (at store answers) j) k
+group_asks files n os offers rest store answers k =
+    emit_after files (placed n) (moment (event.Options (all_shown offers)) (at store answers))
+    (and_on (waits (group_line (options_of os)) (all_shown offers) (at store answers) (λ m st. does_option [] (options_of os) m st)) (λ st. does_all [] rest st)) k

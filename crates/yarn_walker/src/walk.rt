@@ -202,11 +202,12 @@ impl<'p> Walk<'p> {
         ensures offers { self.new.offers ≡ offers.entry }
         ensures sound { StaysSound self.old self.new }
     {
-        self.seat = if any_open(offers.as_slice()) {
+        let seat = if any_open(offers.as_slice()) {
             Seat::Chooses(node, options, rest)
         } else {
             Seat::Fails(node.fault(first_line(options), RunFault::NoOpenOption))
         };
+        self.seat = seat;
         self.offers = offers;
         Turn::Options
     }
