@@ -9,20 +9,21 @@ use Rattle.yarn_blocks.specs.Tree.{Stmts, Nil, Cons, stmts_then}
 use Rattle.yarn_tree.specs.Trees.{NodeTree, FileTree}
 use Rattle.yarn_base.specs.declared.memory.Memory.{Memory}
 use Rattle.yarn_value.specs.declared.fault.RunFault.TheVariants as run_fault
-use Rattle.yarn_code.specs.Moments.{Pairs, State, Stand, Behaviour, moment, stands, emit, Faults}
+use Rattle.yarn_code.specs.Moments.{Pairs, State, Stand, Behaviour, moment, stands, emit, finishes, Faults}
+use Rattle.yarn_code.specs.declared.event.Event.{Event}
 use Rattle.yarn_code.specs.declared.event.Event.TheVariants as event
-use Rattle.yarn_meaning.specs.Does.{and_on, waits, any_open, group_line, does_all, does_option}
-use Rattle.yarn_meaning.specs.First.{Placed, nodes_at, nodes_from, first_titled, find, from, faults_at}
+use Rattle.yarn_meaning.specs.Does.{Done, Through, Jumps, Stops, done, showing, and_on, waits, any_open, group_line, does_all, does_option}
+use Rattle.yarn_meaning.specs.First.{Placed, nodes_at, nodes_from, first_titled, find, leaves, after, exits_of, from, faults_at}
 use Rattle.yarn_meaning.specs.Texts.{Table, Tells, TellsAll, said_in, said_in_one, said_in_nodes, said_in_files}
 use Rattle.yarn_walker.specs.States.{at}
 use Rattle.yarn_walker.specs.Faults.{fault_of}
 use Rattle.yarn_walker.specs.Titles.{placed}
-use Rattle.yarn_walker.specs.Walk.{Coming, Turned, at_group, with_group, arrives, jumping, leaving}
+use Rattle.yarn_walker.specs.Walk.{Coming, Turned, at_group, within_node, with_group, arrives, jumping, leaving}
 use Rattle.yarn_walker.specs.Offers.{all_shown}
 use Rattle.yarn_walker.specs.declared.offer.Offer.{Offer}
 use Rattle.yarn_walker.specs.declared.ends.FaultAt.{FaultAt}
 use Rattle.yarn_walker.specs.declared.titles.NodeAt.{NodeAt}
-use Rattle.yarn_walker.specs.declared.walk.Seat.TheVariants.{Enters, Fails}
+use Rattle.yarn_walker.specs.declared.walk.Seat.TheVariants.{Enters, Finishes, Fails}
 use Rattle.yarn_walker.specs.declared.walk.Turn.{Turn}
 use Rattle.yarn_walker.specs.declared.walk.Turn.TheVariants as turn
 use Rattle.yarn_walker.specs.declared.walk.Walk.{Walk}
@@ -136,3 +137,46 @@ pub group_asks : (files : List FileTree) (n : NodeAt) (os : List OptionItem) (of
 group_asks files n os offers rest store answers k =
     emit_after files (placed n) (moment (event.Options (all_shown offers)) (at store answers))
     (and_on (waits (group_line (options_of os)) (all_shown offers) (at store answers) (λ m st. does_option [] (options_of os) m st)) (λ st. does_all [] rest st)) k
+
+-- ---- what the statements of a node do
+
+finishes_same : (files : List FileTree) (n : NodeAt) (line : ℕ) (st : State) (k : ℕ) →
+    leaves (placed n) line st finishes k ≡ leaves (placed n) line st (λ st1. arrives files k Finishes st1) k
+finishes_same files n line st zero = refl
+finishes_same files n line st (suc k) = refl
+
+-- what is done where a group is shown, with the statements behind it
+abbrev group_done : List OptionItem → List Offer → Stmts → State → Done
+group_done os offers rest st =
+    showing (event.Options (all_shown offers)) st
+    (and_on (waits (group_line (options_of os)) (all_shown offers) st (λ m st1. does_option [] (options_of os) m st1)) (λ st1. does_all [] rest st1))
+
+module _ (files : List FileTree) (n : NodeAt) (old : Stmts) (before store : Pairs) where
+  -- they give an event, and the walk goes on with the rest
+  pub event_comes : (e : Event) (rest : Stmts) →
+      ((answers : List ℕ) → does_all [] old (at before answers) ≡ showing e (at store answers) (does_all [] rest (at store answers))) → (answers : List ℕ) (k : ℕ) →
+      within_node files n old before k answers k ≡ emit (moment e (at store answers)) (λ j. within_node files n rest store j answers j) k
+  event_comes e rest does_so answers k =
+      ap (λ d. after d (exits_of (from [] files k) (placed n)) k) (does_so answers)
+      ∙ emit_after files (placed n) (moment e (at store answers)) (does_all [] rest (at store answers)) k
+
+  -- they show a group
+  pub group_comes : (os : List OptionItem) (offers : List Offer) (rest : Stmts) →
+      ((answers : List ℕ) → does_all [] old (at before answers) ≡ group_done os offers rest (at store answers)) → (answers : List ℕ) (k : ℕ) →
+      within_node files n old before k answers k ≡ with_group files n os offers rest store k answers k
+  group_comes os offers rest does_so answers k = ap (λ d. after d (exits_of (from [] files k) (placed n)) k) (does_so answers)
+
+  -- they jump
+  pub jump_comes : (line : ℕ) (title : List ℕ) → ((answers : List ℕ) → does_all [] old (at before answers) ≡ done (Jumps line title) (at store answers)) →
+      (answers : List ℕ) (k : ℕ) → within_node files n old before k answers k ≡ jumping files n line title store k answers k
+  jump_comes line title does_so answers k = ap (λ d. after d (exits_of (from [] files k) (placed n)) k) (does_so answers)
+
+  -- they end, or stop, and the run is over behind the node
+  pub stop_comes : (line : ℕ) → ((answers : List ℕ) → does_all [] old (at before answers) ≡ done (Stops line) (at store answers)) →
+      (answers : List ℕ) (k : ℕ) → within_node files n old before k answers k ≡ leaving files n line Finishes store k answers k
+  stop_comes line does_so answers k = ap (λ d. after d (exits_of (from [] files k) (placed n)) k) (does_so answers) ∙ finishes_same files n line (at store answers) k
+
+  pub through_comes : ((answers : List ℕ) → does_all [] old (at before answers) ≡ done Through (at store answers)) →
+      (answers : List ℕ) (k : ℕ) → within_node files n old before k answers k ≡ leaving files n n.node.now.end_line Finishes store k answers k
+  through_comes does_so answers k =
+      ap (λ d. after d (exits_of (from [] files k) (placed n)) k) (does_so answers) ∙ finishes_same files n n.node.now.end_line (at store answers) k
