@@ -74,7 +74,8 @@ answer_less [] a is = absurd (cc)
 answer_less (b ∷ bytes) a is =
     let one : 0 < length (taken (b ∷ bytes)) = length_to_lf b (take 4095 bytes) in
     let same : answered (b ∷ bytes) ≡ a = cc in
-    let left : length a.rest ≡ length (b ∷ bytes) - length (taken (b ∷ bytes)) = ap (λ x. length x.rest) (sym same) ∙ length-drop {A = ℕ} (length (taken (b ∷ bytes))) (b ∷ bytes) in
+    let left : length a.rest ≡ length (b ∷ bytes) - length (taken (b ∷ bytes)) =
+    ap (λ x. length x.rest) (sym same) ∙ length-drop {A = ℕ} (length (taken (b ∷ bytes))) (b ∷ bytes) in
     omega arith
 
 answer_none : answer_of [] ≡ None
@@ -94,12 +95,13 @@ no_bytes : (bytes : List ℕ) → length bytes ≤ 0 → answer_of bytes ≡ Non
 no_bytes [] l = answer_none
 no_bytes (b ∷ bytes) l = absurd (omega arith)
 
-picked_none : (most : ℕ) (cs : List Choice) (st : State) (next : ℕ → State → Done) → length st.answers ≤ 0 → picked most cs st next ≡ done Waiting st
+picked_none : (most : ℕ) (cs : List Choice) (st : State) (next : ℕ → State → Done) → length st.answers ≤ 0 →
+    picked most cs st next ≡ done Waiting st
 picked_none zero cs st next l = refl
 picked_none (suc most) cs st next l = at_none (answer_of st.answers) (done Waiting st) _ (no_bytes st.answers l)
 
-pub picked_same : (most more : ℕ) (cs : List Choice) (st : State) (next : ℕ → State → Done) → length st.answers ≤ most → length st.answers ≤ more →
-    picked most cs st next ≡ picked more cs st next
+pub picked_same : (most more : ℕ) (cs : List Choice) (st : State) (next : ℕ → State → Done) →
+    length st.answers ≤ most → length st.answers ≤ more → picked most cs st next ≡ picked more cs st next
 picked_same zero more cs st next l m = sym (picked_none more cs st next l)
 picked_same (suc most) zero cs st next l m = picked_none (suc most) cs st next m
 picked_same (suc most) (suc more) cs st next l m =
@@ -110,7 +112,8 @@ picked_same (suc most) (suc more) cs st next l m =
 
 -- ---- an answer
 
-waits_open : (line : ℕ) (cs : List Choice) (st : State) (next : ℕ → State → Done) → any_open cs ≡ true → waits line cs st next ≡ picked (length st.answers) cs st next
+waits_open : (line : ℕ) (cs : List Choice) (st : State) (next : ℕ → State → Done) → any_open cs ≡ true →
+    waits line cs st next ≡ picked (length st.answers) cs st next
 waits_open line cs st next is = rw is refl
 
 module _ (cs : List Choice) (store : Pairs) (next : ℕ → State → Done) (number : ℕ) (rest : List ℕ) where
@@ -124,20 +127,24 @@ module _ (cs : List Choice) (store : Pairs) (next : ℕ → State → Done) (num
   picked_rejected [] is rejected = absurd (cc (answer_none))
   picked_rejected (b ∷ bytes) is rejected =
       let less : length rest < length (b ∷ bytes) = answer_less (b ∷ bytes) (record { number = number; rest = rest }) is in
-      rw (is, rejected) (ap (showing event.Rejected (at store rest)) (picked_same (length bytes) (length rest) cs (at store rest) next (omega arith) (omega arith)))
+      rw (is, rejected)
+      (ap (showing event.Rejected (at store rest)) (picked_same (length bytes) (length rest) cs (at store rest) next (omega arith) (omega arith)))
 
 module _ (files : List FileTree) (n : Placed) (os : Options) (cs : List Choice) (rest : Stmts) (store : Pairs) (number : ℕ) (bytes left : List ℕ) where
   -- where an option is chosen, its body is done before the statements behind the group
   pub chosen_comes : (body : Stmts) → any_open cs ≡ true → chooses number cs ≡ true →
-      ((st : State) → does_option [] os (less_one number) st ≡ does_all [] body st) → answer_of bytes ≡ Some (record { number = number; rest = left }) → (k : ℕ) →
+      ((st : State) → does_option [] os (less_one number) st ≡ does_all [] body st) →
+      answer_of bytes ≡ Some (record { number = number; rest = left }) → (k : ℕ) →
       at_group files k n os cs rest (at store bytes) k ≡ in_body [] (from [] files k) n (stmts_then body rest) (at store left) k
   chosen_comes body asks chosen is_body is k =
       ap (λ d. after (and_on d (λ st1. does_all [] rest st1)) (exits_of (from [] files k) n) k)
-      (waits_open (group_line os) cs (at store bytes) _ asks ∙ picked_chosen cs store (λ m st. does_option [] os m st) number left bytes is chosen ∙ is_body (at store left))
+      (waits_open (group_line os) cs (at store bytes) _ asks
+      ∙ picked_chosen cs store (λ m st. does_option [] os m st) number left bytes is chosen ∙ is_body (at store left))
       ∙ ap (λ d. after d (exits_of (from [] files k) n) k) (sym (does_then body rest (at store left)))
 
   -- where none is chosen, that is an event, and the group is asked again
-  pub rejected_comes : any_open cs ≡ true → chooses number cs ≡ false → answer_of bytes ≡ Some (record { number = number; rest = left }) → (k : ℕ) →
+  pub rejected_comes : any_open cs ≡ true → chooses number cs ≡ false →
+      answer_of bytes ≡ Some (record { number = number; rest = left }) → (k : ℕ) →
       at_group files k n os cs rest (at store bytes) k ≡ emit (moment event.Rejected (at store left)) (λ j. at_group files j n os cs rest (at store left) j) k
   rejected_comes asks rejected is k =
       let next : ℕ → State → Done = λ m st. does_option [] os m st in
@@ -183,7 +190,8 @@ length_texts (o ∷ options) = ap suc (length_texts options)
 pub length_offers : (options : List OptionItem) (offers : List Offer) → AreOf (options_of options) offers → length offers ≡ length options
 length_offers options offers are = sym (length-map offers (λ (offer : Offer). offer.text.now)) ∙ ap length are ∙ length_texts options
 
-pub closed_past : (offers : List Offer) (os : Options) (number at : ℕ) → number ≡ suc at → length offers ≤ at → Opens (all_shown offers) os number None
+pub closed_past : (offers : List Offer) (os : Options) (number at : ℕ) → number ≡ suc at → length offers ≤ at →
+    Opens (all_shown offers) os number None
 closed_past offers os number at is past = rw is (all_shown-past offers at past)
 
 pub closed_at : (offers : List Offer) (number at : ℕ) (offer : Offer) → number ≡ suc at → at < length offers → offer ≡ get_or offers at offer →
@@ -195,7 +203,8 @@ pub open_at : (offers : List Offer) (options : List OptionItem) (number at : ℕ
     at < length options → item ≡ get_or options at item → body.now ≡ item.body → Opens (all_shown offers) (options_of options) number (Some body)
 open_at offers options number at offer item body is there one asks here other same =
     let whole : body.now ≡ (get_or options at item).body = same ∙ ap (λ o. o.body) other in
-    subst (λ m. Opens (all_shown offers) (options_of options) m (Some body)) (sym is)
-    (all_shown-at offers at offer there ∙ ap (λ o. o.available) (sym one) ∙ asks,
-    λ st. rw whole (option_at options at item here st),
-    λ table told. subst (λ b. TellsAll table (said_in (stmts_of b))) (sym whole) (tells_option table options at item here told))
+    subst (λ m. Opens (all_shown offers) (options_of options) m (Some body)) (sym is) (
+      all_shown-at offers at offer there ∙ ap (λ o. o.available) (sym one) ∙ asks,
+      λ st. rw whole (option_at options at item here st),
+      λ table told. subst (λ b. TellsAll table (said_in (stmts_of b))) (sym whole) (tells_option table options at item here told),
+    )

@@ -48,7 +48,8 @@ emit_agrees m b c same (suc k) = ap (with_moment m) (same k)
 
 pub emit_after : (files : List FileTree) (n : Placed) (m : Moment) (d : Done) (k : ℕ) →
     emit m (after d (exits_of (from [] files k) n)) k ≡ emit m (λ j. after d (exits_of (from [] files j) n) j) k
-emit_after files n m d k = emit_agrees m (λ fuel. after d (exits_of (from [] files fuel) n)) (λ j. after d (exits_of (from [] files j) n) j) (after_agrees files n d) k
+emit_after files n m d k =
+    emit_agrees m (λ fuel. after d (exits_of (from [] files fuel) n)) (λ j. after d (exits_of (from [] files j) n) j) (after_agrees files n d) k
 
 -- behind the end of a node one event less is left
 counted_same : (n : Placed) (line : ℕ) (st : State) (count : Result Value RunFault) (f g : State → Behaviour) (k : ℕ) →

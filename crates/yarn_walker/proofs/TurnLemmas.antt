@@ -1,27 +1,27 @@
--- What the turns of a walk keep.
-use Rattle.std.proofs.Common.{◌≡◌, ℕ, suc, Bool, true, false, nat_eq, if◌then◌else◌, List, [], ◌∷◌, ◌++◌, Option, Some, None, refl, sym, ap, subst, ◌∙◌, append_assoc, zero, Result, Ok, Err, IfOk, arith}
+-- What the turns of a walk give and keep.
+use Rattle.std.proofs.Common.{◌≡◌, ℕ, zero, suc, Bool, true, false, nat_eq, if◌then◌else◌, List, [], ◌∷◌, ◌++◌, Option, Some, None, Result, Ok, Err, IfOk, refl, sym, ap, subst, ◌∙◌, arith, append_assoc}
 use Rattle.std.specs.List.{All}
 use Rattle.std.specs.Cmp.Lexicographic.{pointwise}
 use Rattle.std.proofs.lemmas.List.Elements.{All-nil, All-cons, All-head, All-tail, All-append, All-same}
-use Rattle.yarn_blocks.specs.declared.tree.OptionItem.{OptionItem}
-use Rattle.yarn_blocks.specs.View.{options_of}
-use Rattle.yarn_blocks.specs.Tree.{Stmts, Nil, Cons, stmts_then}
-use Rattle.yarn_tree.specs.Trees.{NodeTree, FileTree}
 use Rattle.yarn_base.specs.declared.memory.Memory.{Memory}
 use Rattle.yarn_value.specs.declared.fault.RunFault.TheVariants as run_fault
-use Rattle.yarn_code.specs.Moments.{Pairs, State, Stand, Behaviour, moment, stands, emit, finishes, Faults}
+use Rattle.yarn_blocks.specs.declared.tree.OptionItem.{OptionItem}
+use Rattle.yarn_blocks.specs.Tree.{Stmts, Nil, Cons, stmts_then}
+use Rattle.yarn_blocks.specs.View.{options_of}
+use Rattle.yarn_tree.specs.Trees.{NodeTree, FileTree}
 use Rattle.yarn_code.specs.declared.event.Event.{Event}
 use Rattle.yarn_code.specs.declared.event.Event.TheVariants as event
+use Rattle.yarn_code.specs.Moments.{Pairs, State, Stand, Behaviour, moment, stands, emit, finishes, Faults}
 use Rattle.yarn_meaning.specs.Does.{Done, Through, Jumps, Stops, done, showing, and_on, waits, any_open, group_line, does_all, does_option}
 use Rattle.yarn_meaning.specs.First.{Placed, nodes_at, nodes_from, first_titled, find, leaves, after, exits_of, from, faults_at}
 use Rattle.yarn_meaning.specs.Texts.{Table, Tells, TellsAll, said_in, said_in_one, said_in_nodes, said_in_files}
 use Rattle.yarn_walker.specs.States.{at}
 use Rattle.yarn_walker.specs.Faults.{fault_of}
+use Rattle.yarn_walker.specs.Offers.{all_shown}
 use Rattle.yarn_walker.specs.Titles.{placed}
 use Rattle.yarn_walker.specs.Walk.{Coming, Turned, at_group, within_node, with_group, arrives, jumping, leaving}
-use Rattle.yarn_walker.specs.Offers.{all_shown}
-use Rattle.yarn_walker.specs.declared.offer.Offer.{Offer}
 use Rattle.yarn_walker.specs.declared.ends.FaultAt.{FaultAt}
+use Rattle.yarn_walker.specs.declared.offer.Offer.{Offer}
 use Rattle.yarn_walker.specs.declared.titles.NodeAt.{NodeAt}
 use Rattle.yarn_walker.specs.declared.walk.Seat.TheVariants.{Enters, Finishes, Fails}
 use Rattle.yarn_walker.specs.declared.walk.Turn.{Turn}
@@ -39,7 +39,8 @@ pub All-behind : {X : Type 0} (P : X → Type 0) (xs ys : List X) → All P (xs 
 All-behind P [] ys h = h
 All-behind P (x ∷ xs) ys h = All-behind P xs ys (All-tail P x (xs ++ ys) h)
 
-first_or_later : (P : Placed → Type 0) (m n : Placed) (later : Option Placed) → P m → (later ≡ Some n → P n) → (b : Bool) → (if b then Some m else later) ≡ Some n → P n
+first_or_later : (P : Placed → Type 0) (m n : Placed) (later : Option Placed) → P m → (later ≡ Some n → P n) →
+    (b : Bool) → (if b then Some m else later) ≡ Some n → P n
 first_or_later P m n later first rest true is = let same : m ≡ n = cc in subst P same first
 first_or_later P m n later first rest false is = rest is
 
@@ -77,12 +78,15 @@ said_then Nil b = refl
 said_then (Cons s a) b = ap (λ l. said_in_one s ++ l) (said_then a b) ∙ sym (append_assoc (said_in_one s) (said_in a) (said_in b))
 
 pub tells_then : (table : Table) (a b : Stmts) → TellsAll table (said_in a) → TellsAll table (said_in b) → TellsAll table (said_in (stmts_then a b))
-tells_then table a b one two = All-same (Tells table) (said_in (stmts_then a b)) (said_in a ++ said_in b) (said_then a b) (All-append (Tells table) (said_in a) (said_in b) one two)
+tells_then table a b one two =
+    All-same (Tells table) (said_in (stmts_then a b)) (said_in a ++ said_in b) (said_then a b)
+    (All-append (Tells table) (said_in a) (said_in b) one two)
 
 -- ---- what is to come
 
 -- a turn of what comes is one of what comes the same way
-pub turned_same : (c d : Coming) (t : Turn) (new : Walk) → ((answers : List ℕ) (k : ℕ) → c k answers k ≡ d k answers k) → Turned d t new → Turned c t new
+pub turned_same : (c d : Coming) (t : Turn) (new : Walk) → ((answers : List ℕ) (k : ℕ) → c k answers k ≡ d k answers k) →
+    Turned d t new → Turned c t new
 turned_same c d (turn.NodeStart title) new same h = λ answers k. same answers k ∙ h answers k
 turned_same c d (turn.Line text values) new same h = λ answers k. same answers k ∙ h answers k
 turned_same c d (turn.Command text values) new same h = λ answers k. same answers k ∙ h answers k
@@ -103,8 +107,8 @@ enters_same : (files : List FileTree) (title : List ℕ) (m : NodeAt) → Some (
 enters_same files title m is st none zero j e = absurd (omega arith)
 enters_same files title m is st none (suc k) j e = rw (← is) refl
 
-fails_same : (files : List FileTree) (title : List ℕ) (f : FaultAt) → None ≡ find title files → (st : State) (s : Stand) → Faults (fault_of f) ≡ s → (k j : ℕ) →
-    k ≡ suc j → from [] files k title st (stands s st) j ≡ arrives files k (Fails f) st j
+fails_same : (files : List FileTree) (title : List ℕ) (f : FaultAt) → None ≡ find title files → (st : State) (s : Stand) →
+    Faults (fault_of f) ≡ s → (k j : ℕ) → k ≡ suc j → from [] files k title st (stands s st) j ≡ arrives files k (Fails f) st j
 fails_same files title f is st s one zero j e = absurd (omega arith)
 fails_same files title f is st s one (suc k) j e = rw (← is) (ap (λ x. stands x st j) (sym one))
 
@@ -133,10 +137,12 @@ group_fails files n os offers rest store f closed fault answers k = rw (closed, 
 -- else it asks for an answer
 pub group_asks : (files : List FileTree) (n : NodeAt) (os : List OptionItem) (offers : List Offer) (rest : Stmts) (store : Pairs) →
     (answers : List ℕ) (k : ℕ) → with_group files n os offers rest store k answers k ≡
-    emit (moment (event.Options (all_shown offers)) (at store answers)) (λ j. at_group files j (placed n) (options_of os) (all_shown offers) rest (at store answers) j) k
+    emit (moment (event.Options (all_shown offers)) (at store answers))
+    (λ j. at_group files j (placed n) (options_of os) (all_shown offers) rest (at store answers) j) k
 group_asks files n os offers rest store answers k =
     emit_after files (placed n) (moment (event.Options (all_shown offers)) (at store answers))
-    (and_on (waits (group_line (options_of os)) (all_shown offers) (at store answers) (λ m st. does_option [] (options_of os) m st)) (λ st. does_all [] rest st)) k
+    (and_on (waits (group_line (options_of os)) (all_shown offers) (at store answers) (λ m st. does_option [] (options_of os) m st))
+    (λ st. does_all [] rest st)) k
 
 -- ---- what the statements of a node do
 
@@ -154,7 +160,8 @@ group_done os offers rest st =
 module _ (files : List FileTree) (n : NodeAt) (old : Stmts) (before store : Pairs) where
   -- they give an event, and the walk goes on with the rest
   pub event_comes : (e : Event) (rest : Stmts) →
-      ((answers : List ℕ) → does_all [] old (at before answers) ≡ showing e (at store answers) (does_all [] rest (at store answers))) → (answers : List ℕ) (k : ℕ) →
+      ((answers : List ℕ) → does_all [] old (at before answers) ≡ showing e (at store answers) (does_all [] rest (at store answers))) →
+      (answers : List ℕ) (k : ℕ) →
       within_node files n old before k answers k ≡ emit (moment e (at store answers)) (λ j. within_node files n rest store j answers j) k
   event_comes e rest does_so answers k =
       ap (λ d. after d (exits_of (from [] files k) (placed n)) k) (does_so answers)
@@ -167,14 +174,16 @@ module _ (files : List FileTree) (n : NodeAt) (old : Stmts) (before store : Pair
   group_comes os offers rest does_so answers k = ap (λ d. after d (exits_of (from [] files k) (placed n)) k) (does_so answers)
 
   -- they jump
-  pub jump_comes : (line : ℕ) (title : List ℕ) → ((answers : List ℕ) → does_all [] old (at before answers) ≡ done (Jumps line title) (at store answers)) →
+  pub jump_comes : (line : ℕ) (title : List ℕ) →
+      ((answers : List ℕ) → does_all [] old (at before answers) ≡ done (Jumps line title) (at store answers)) →
       (answers : List ℕ) (k : ℕ) → within_node files n old before k answers k ≡ jumping files n line title store k answers k
   jump_comes line title does_so answers k = ap (λ d. after d (exits_of (from [] files k) (placed n)) k) (does_so answers)
 
   -- they end, or stop, and the run is over behind the node
   pub stop_comes : (line : ℕ) → ((answers : List ℕ) → does_all [] old (at before answers) ≡ done (Stops line) (at store answers)) →
       (answers : List ℕ) (k : ℕ) → within_node files n old before k answers k ≡ leaving files n line Finishes store k answers k
-  stop_comes line does_so answers k = ap (λ d. after d (exits_of (from [] files k) (placed n)) k) (does_so answers) ∙ finishes_same files n line (at store answers) k
+  stop_comes line does_so answers k =
+      ap (λ d. after d (exits_of (from [] files k) (placed n)) k) (does_so answers) ∙ finishes_same files n line (at store answers) k
 
   pub through_comes : ((answers : List ℕ) → does_all [] old (at before answers) ≡ done Through (at store answers)) →
       (answers : List ℕ) (k : ℕ) → within_node files n old before k answers k ≡ leaving files n n.node.now.end_line Finishes store k answers k

@@ -70,7 +70,13 @@ pub struct Walk<'p> {
 
 impl<'p> Walk<'p> {
     /// A walk that begins with this node, which is one of the project's. The store has the variables of the project.
-    pub fn new(alloc: Global, titles: Titles<'p>, start: &Text, node: NodeAt<'p>, store: Store) -> Walk<'p>
+    pub fn new(
+        alloc: Global,
+        titles: Titles<'p>,
+        start: &Text,
+        node: NodeAt<'p>,
+        store: Store,
+    ) -> Walk<'p>
         requires titles { HasAll titles }
         requires there { find start.now (map file_tree titles.files.now) ≡ Some (placed node) }
         ensures seat { result.seat ≡ Seat.Enters node.entry }

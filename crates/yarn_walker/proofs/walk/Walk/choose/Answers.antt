@@ -45,7 +45,8 @@ returns-in_ok-push-in-Some-clause-sound c =
     record {
       sound = record {
         titles = c.requires.sound.titles;
-        told = λ table all. subst (λ b. TellsAll table (said_in b)) (sym joins) (tells_then table body behind (c.in-Some.ensures.2 table (told table all).0) (told table all).1);
+        told = λ table all. subst (λ b. TellsAll table (said_in b)) (sym joins)
+            (tells_then table body behind (c.in-Some.ensures.2 table (told table all).0) (told table all).1);
         group = tt;
       };
       titles = refl;
@@ -59,7 +60,8 @@ returns-in-None-clause-meaning c =
     let behind = rest_of c.in-Chooses.rest in
     let seat : w.seat ≡ Chooses node c.in-Chooses.options c.in-Chooses.rest = cc in
     let asks : any_open (all_shown w.offers.items) ≡ true = (subst (λ (s : Seat). IsGroup s w.offers.items) seat c.requires.sound.group).0 in
-    let rejected : chooses c.args.number (all_shown w.offers.items) ≡ false = ap (λ offers. chooses c.args.number (all_shown offers)) (sym c.as_slice.ensures.value) ∙ c.in-None.ensures in
+    let rejected : chooses c.args.number (all_shown w.offers.items) ≡ false =
+    ap (λ offers. chooses c.args.number (all_shown offers)) (sym c.as_slice.ensures.value) ∙ c.in-None.ensures in
     λ bytes left k is.
     ap (λ (s : Seat). from_seat (files_of w) k (all_shown w.offers.items) s (at w.store bytes) k) seat
     ∙ rejected_comes (files_of w) (placed node) os (all_shown w.offers.items) behind w.store c.args.number bytes left asks rejected is k

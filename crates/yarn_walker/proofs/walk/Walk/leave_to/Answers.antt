@@ -14,9 +14,9 @@ pub leave-requires-clause-told : goal.leave-requires-clause-told
 leave-requires-clause-told c =
     let w = c.args.self.now in
     elim c.match-find.branch [
-      in-Some b ↦ λ table all.
-        subst (ToldSeat table) (sym b.next-is) (found_tells table c.args.title.now (files_of w) (placed b.in-Some.next) (sym b.in-Some.ensures) all)
-    | in-None+in_ok-copy-in-None b ↦ λ table all. subst (ToldSeat table) (sym b.next-is) tt
+      | in-Some b ↦ λ table all.
+          subst (ToldSeat table) (sym b.next-is) (found_tells table c.args.title.now (files_of w) (placed b.in-Some.next) (sym b.in-Some.ensures) all)
+      | in-None+in_ok-copy-in-None b ↦ λ table all. subst (ToldSeat table) (sym b.next-is) tt
     ]
 
 -- The jump is a leaving for what was found.
@@ -24,14 +24,17 @@ pub returns-clause-meaning : goal.returns-clause-meaning
 returns-clause-meaning c =
     let w = c.args.self.now in
     let title = c.args.title.now in
-    let same : (answers : List ℕ) (k : ℕ) → jumping (files_of w) c.args.node c.args.line title w.store k answers k ≡ leaving (files_of w) c.args.node c.args.line c.match-find.next w.store k answers k =
-        λ answers k. let Same : Seat → Type 0 = λ s. jumping (files_of w) c.args.node c.args.line title w.store k answers k ≡ leaving (files_of w) c.args.node c.args.line s w.store k answers k in
-        elim c.match-find.branch [
-          in-Some b ↦ subst Same (sym b.next-is) (jumping_enters (files_of w) c.args.node b.in-Some.next c.args.line title w.store b.in-Some.ensures answers k)
-        | in-None+in_ok-copy-in-None b ↦
-            let copied : b.in_ok-copy-in-None.field-0 ≡ title = b.in_ok-copy-in-None.ensures in
-            let fault : Faults (fault_of b.fault.result) ≡ faults_at (placed c.args.node) c.args.line (UnknownNode title) =
-                b.fault.ensures ∙ ap (λ t. faults_at (placed c.args.node) c.args.line (UnknownNode t)) copied in
-            subst Same (sym b.next-is) (jumping_fails (files_of w) c.args.node b.fault.result c.args.line title w.store b.in-None.ensures fault answers k)
-        ] in
-    ok_turned_same (jumping (files_of w) c.args.node c.args.line title w.store) (leaving (files_of w) c.args.node c.args.line c.match-find.next w.store) c.leave.result _ same c.leave.ensures.meaning
+    let node = c.args.node in
+    let line = c.args.line in
+    let Same : Seat → Type 0 = λ next.
+    (answers : List ℕ) (k : ℕ) → jumping (files_of w) node line title w.store k answers k ≡ leaving (files_of w) node line next w.store k answers k in
+    let same : Same c.match-find.next = elim c.match-find.branch [
+      | in-Some b ↦ subst Same (sym b.next-is) (jumping_enters (files_of w) node b.in-Some.next line title w.store b.in-Some.ensures)
+      | in-None+in_ok-copy-in-None b ↦
+          let copied : b.in_ok-copy-in-None.field-0 ≡ title = b.in_ok-copy-in-None.ensures in
+          let fault : Faults (fault_of b.fault.result) ≡ faults_at (placed node) line (UnknownNode title) =
+          b.fault.ensures ∙ ap (λ t. faults_at (placed node) line (UnknownNode t)) copied in
+          subst Same (sym b.next-is) (jumping_fails (files_of w) node b.fault.result line title w.store b.in-None.ensures fault)
+    ] in
+    ok_turned_same (jumping (files_of w) node line title w.store) (leaving (files_of w) node line c.match-find.next w.store) c.leave.result _ same
+    c.leave.ensures.meaning

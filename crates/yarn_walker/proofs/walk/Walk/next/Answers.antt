@@ -30,4 +30,5 @@ pub returns-in-Within-clause-meaning : goal.returns-in-Within-clause-meaning
 returns-in-Within-clause-meaning c =
     let w = c.args.self.now in
     ok_turned_same (coming w) (within_node (files_of w) c.in-Within.node (rest_of c.in-Within.rest) w.store) c.statements.result _
-    (λ answers k. ap (λ (s : Seat). from_seat (files_of w) k (all_shown w.offers.items) s (at w.store answers) k) (sym c.in-Within.ensures.value)) c.statements.ensures.meaning
+    (λ answers k. ap (λ (s : Seat). from_seat (files_of w) k (all_shown w.offers.items) s (at w.store answers) k) (sym c.in-Within.ensures.value))
+    c.statements.ensures.meaning

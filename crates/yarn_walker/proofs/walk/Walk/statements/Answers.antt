@@ -84,7 +84,7 @@ pub returns-in-Ok-Options-clause-texts : goal.returns-in-Ok-Options-clause-texts
 returns-in-Ok-Options-clause-texts c = λ table all.
     let told = (subst (TellsDeed table) c.in-Ok-Options.field-0-is (c.in-Ok-Options.ensures.texts table (c.requires.told table all)).0).0 in
     let shown : All (λ (offer : Offer). Tells table offer.text.now) c.show.new.self.offers.items =
-        subst (λ (offers : List Offer). All (λ (offer : Offer). Tells table offer.text.now) offers) (ap (λ v. v.items) (sym c.show.ensures.offers)) told in
+    subst (λ (offers : List Offer). All (λ (offer : Offer). Tells table offer.text.now) offers) (ap (λ v. v.items) (sym c.show.ensures.offers)) told in
     subst (λ (t : Turn). ToldTurn table t c.show.new.self) (sym c.show.ensures.options) shown
 
 -- ---- the ways out of a node
