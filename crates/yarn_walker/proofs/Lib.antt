@@ -4,3 +4,6 @@ pub mod FrameLemmas
 pub mod VariableLemmas
 pub mod OfferLemmas
 pub mod DeedLemmas
+pub mod AnswerLemmas
+pub mod FuelLemmas
+pub mod TurnLemmas

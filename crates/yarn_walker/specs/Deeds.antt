@@ -13,7 +13,7 @@ use Rattle.yarn_meaning.specs.Filled.{filled}
 use Rattle.yarn_meaning.specs.Texts.{Table, Tells, TellsAll, said_in, said_in_options}
 use Rattle.yarn_walker.specs.States.{at}
 use Rattle.yarn_walker.specs.Means.{Means}
-use Rattle.yarn_walker.specs.Offers.{all_shown}
+use Rattle.yarn_walker.specs.Offers.{all_shown, AreOf}
 use Rattle.yarn_walker.specs.declared.offer.Offer.{Offer}
 use Rattle.yarn_walker.specs.declared.halt.Halt.{Halt}
 use Rattle.yarn_walker.specs.declared.halt.Halt.TheVariants as halt
@@ -53,6 +53,11 @@ abbrev pub DoesFirst : Stmts → Pairs → Result (Option Deed) Halt → Stmts �
 DoesFirst old before (Ok None) new store = (answers : List ℕ) → does_all [] old (at before answers) ≡ does_all [] new (at store answers)
 DoesFirst old before (Ok (Some d)) new store = Does old before (Ok d) new store
 DoesFirst old before (Err e) new store = Does old before (Err e) new store
+
+-- a group is shown with the texts of its options
+abbrev pub ShowsItsOptions : Deed → Type 0
+ShowsItsOptions (deed.Options os offers) = AreOf (options_of os.now) offers.items
+ShowsItsOptions _ = ⊤
 
 -- ---- texts
 

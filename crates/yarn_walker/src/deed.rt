@@ -1,9 +1,9 @@
 //! What statements do.
-ghost use Rattle.std.specs.Prelude.{◌≡◌, ◌<◌, [], Ok, None};
+ghost use Rattle.std.specs.Prelude.{◌≡◌, ◌<◌, [], Ok, None, IfOk, IfSome};
 ghost use Rattle.yarn_blocks.specs.Tree.{Cons};
 ghost use Rattle.yarn_blocks.specs.View.{stmt_of};
 ghost use Rattle.yarn_meaning.specs.Does.{set_value as set_value_of};
-ghost use Rattle.yarn_walker.specs.Deeds.{Does, DoesFirst, KeepsTexts, KeepsTextsFirst, ValuesIn, title_given};
+ghost use Rattle.yarn_walker.specs.Deeds.{Does, DoesFirst, KeepsTexts, KeepsTextsFirst, ShowsItsOptions, ValuesIn, title_given};
 ghost use Rattle.yarn_walker.specs.Frames.{rest_of};
 ghost use Rattle.yarn_walker.specs.Means.{Means};
 ghost use Rattle.yarn_walker.specs.Weight.{weight};
@@ -48,6 +48,7 @@ pub(crate) fn next_deed<'p>(
 ) -> Result<Deed<'p>, Halt>
     ensures meaning { Does (rest_of rest.old) store.old result (rest_of rest.new) store.new }
     ensures texts { KeepsTexts (rest_of rest.old) result (rest_of rest.new) }
+    ensures group { IfOk result ShowsItsOptions }
 {
     while let Some(statement) = rest.take_first() {
         if let Some(deed) = deed_of(alloc, statement, rest, store)? {
@@ -66,6 +67,7 @@ fn deed_of<'p>(
 ) -> Result<Option<Deed<'p>>, Halt>
     ensures meaning { DoesFirst (Cons (stmt_of statement.now) (rest_of rest.old)) store.old result (rest_of rest.new) store.new }
     ensures texts { KeepsTextsFirst (Cons (stmt_of statement.now) (rest_of rest.old)) result (rest_of rest.new) }
+    ensures group { IfOk result (λ deed. IfSome deed ShowsItsOptions) }
     ensures less { result ≡ Ok None → weight (rest_of rest.new) < weight (Cons (stmt_of statement.now) (rest_of rest.old)) }
 {
     match statement {

@@ -70,7 +70,13 @@ pub struct Walk<'p> {
 
 impl<'p> Walk<'p> {
     /// A walk that begins with this node, which is one of the project's. The store has the variables of the project.
-    pub fn new(alloc: Global, titles: Titles<'p>, start: &Text, node: NodeAt<'p>, store: Store) -> Walk<'p>
+    pub fn new(
+        alloc: Global,
+        titles: Titles<'p>,
+        start: &Text,
+        node: NodeAt<'p>,
+        store: Store,
+    ) -> Walk<'p>
         requires titles { HasAll titles }
         requires there { find start.now (map file_tree titles.files.now) ≡ Some (placed node) }
         ensures seat { result.seat ≡ Seat.Enters node.entry }
@@ -160,7 +166,7 @@ impl<'p> Walk<'p> {
         node: NodeAt<'p>,
         mut rest: Frames<'p>,
     ) -> Result<Turn<'p>, Memory>
-        requires titles { HasAll self.old.titles }
+        requires sound { IsSound self.old }
         requires told { WithTexts (files_of self.old) (λ table. TellsAll table (said_in (rest_of rest))) }
         ensures meaning { IfOk result (λ turn. Turned (within_node (files_of self.old) node.entry (rest_of rest.entry) self.old.store) turn self.new) }
         ensures texts { IfOk result (λ turn. TellsTurn self.old turn self.new) }
@@ -193,7 +199,7 @@ impl<'p> Walk<'p> {
         offers: Vec<Offer<'p>>,
         rest: Frames<'p>,
     ) -> Turn<'p>
-        requires titles { HasAll self.old.titles }
+        requires sound { IsSound self.old }
         requires group { AreOf (options_of options.now) offers.items }
         requires options_told { WithTexts (files_of self.old) (λ table. TellsAll table (said_in_options (options_of options.now))) }
         requires rest_told { WithTexts (files_of self.old) (λ table. TellsAll table (said_in (rest_of rest))) }
@@ -202,11 +208,12 @@ impl<'p> Walk<'p> {
         ensures offers { self.new.offers ≡ offers.entry }
         ensures sound { StaysSound self.old self.new }
     {
-        self.seat = if any_open(offers.as_slice()) {
+        let seat = if any_open(offers.as_slice()) {
             Seat::Chooses(node, options, rest)
         } else {
             Seat::Fails(node.fault(first_line(options), RunFault::NoOpenOption))
         };
+        self.seat = seat;
         self.offers = offers;
         Turn::Options
     }
@@ -219,7 +226,7 @@ impl<'p> Walk<'p> {
         line: u32,
         title: &Text,
     ) -> Result<Turn<'p>, Memory>
-        requires titles { HasAll self.old.titles }
+        requires sound { IsSound self.old }
         ensures meaning { IfOk result (λ turn. Turned (jumping (files_of self.old) node.entry line title.now self.old.store) turn self.new) }
         ensures texts { IfOk result (λ turn. TellsTurn self.old turn self.new) }
         ensures sound { OnOk result (StaysSound self.old self.new) }
@@ -239,7 +246,7 @@ impl<'p> Walk<'p> {
         line: u32,
         next: Seat<'p>,
     ) -> Result<Turn<'p>, Memory>
-        requires titles { HasAll self.old.titles }
+        requires sound { IsSound self.old }
         requires arrival { is_arrival next ≡ true }
         requires told { WithTexts (files_of self.old) (λ table. ToldSeat table next) }
         ensures meaning { IfOk result (λ turn. Turned (leaving (files_of self.old) node.entry line next.entry self.old.store) turn self.new) }
