@@ -18,4 +18,3 @@ pub use offer::{Offer, any_open};
 pub use titles::{NodeAt, Titles};
 pub use variables::{first_other, first_store};
 pub use walk::{Seat, Turn, Walk};
-
