@@ -111,7 +111,7 @@ some_answer (b ∷ bytes) some = refl
 -- the bytes taken are all that the answer takes
 answers : (old new : Option (List ℕ)) (all : List ℕ) (number : ℕ) → old ≡ prepend_known all new → 0 < length all →
     IfSome new (λ rest. taken (all ++ rest) ≡ all) → number_of (trimmed (before_lf all)) ≡ number → TakesAnswer old new (Some number)
-answers old None all number e some whole is = rw e tt
+answers old None all number e some whole is = rw e refl
 answers old (Some rest) all number e some whole is =
     let longer : 0 < length (all ++ rest) = omega (arith, length-append all rest) in
     let a = some_answer (all ++ rest) longer in
@@ -180,7 +180,7 @@ pub IsReading-none : (old new : Option (List ℕ)) (before now n : ℕ) (scan : 
 IsReading-none old new before now n scan so_far none ended = at_nothing new so_far.front so_far.split (so_far.count ∙ none) ended
   where
     at_nothing : (o : Option (List ℕ)) (front : List ℕ) → old ≡ prepend_known front o → length front ≡ 0 → IsAtEnd o → TakesAnswer old o None
-    at_nothing None front e zero_long ended = rw e tt
+    at_nothing None front e zero_long ended = rw e refl
     at_nothing (Some rest) [] e zero_long ended = rw (e, ended, no_answer) (refl, refl)
     at_nothing (Some rest) (b ∷ front) e zero_long ended = absurd (omega (arith, zero_long))
 

@@ -2,4 +2,5 @@
 pub mod Played
 pub mod Shown
 pub mod Stands
+pub mod Steps
 pub mod Transcript

@@ -1,8 +1,11 @@
 //! Plays a walk.
-ghost use Rattle.std.specs.Prelude.{◌≡◌, ◌≤◌, IfOk, IfSome, OnOk, IsErrOf};
-ghost use Rattle.yarn_base.specs.Causes.{Rose};
+ghost use Rattle.std.specs.Prelude.{◌≡◌, ◌≤◌, true, false, IfOk, IfSome, OnOk, IsErrOf};
+ghost use Rattle.std.specs.Io.KnownBytes.{append_known};
+ghost use Rattle.yarn_base.specs.Causes.{Rose, HasCause};
+ghost use Rattle.yarn_base.specs.Outside.{WritesPart};
 ghost use Rattle.yarn_player.specs.Played.{first_from, IsPlayed, Writes, WritesSome, TakesFront};
-ghost use Rattle.yarn_walker.specs.Walk.{IsSound};
+ghost use Rattle.yarn_player.specs.Steps.{spot, Steps, Shows, NoAnswer, Answer, IsCause};
+ghost use Rattle.yarn_walker.specs.Walk.{is_asking, IsSound, StaysSound};
 
 use crate::ends::{PlayEnd, PlayFault, Played};
 use crate::page::Page;
@@ -18,6 +21,20 @@ impl From<Memory> for PlayFault {
 
     fn from(_: Memory) -> PlayFault {
         PlayFault::Memory
+    }
+}
+
+// The fault of a write.
+impl From<IoFault> for PlayFault {
+    ghost use Rattle.yarn_player.specs.Steps.{fault_of_write};
+
+    ghost from_gives = { λ fault e. e ≡ fault_of_write fault };
+
+    fn from(fault: IoFault) -> PlayFault {
+        match fault {
+            IoFault::Failed => PlayFault::OutputFailed,
+            IoFault::Memory => PlayFault::Memory,
+        }
     }
 }
 
@@ -49,46 +66,77 @@ pub fn play<'p, I: Source, O: Sink>(
     for _ in 0..limit {
         let end = step(alloc, &mut walk, &mut page, input, out)?;
         if let Some(end) = end {
-            return finish(walk, page, end, out);
+            return Ok(finish(walk, page, end, out)?);
         }
-        page.turn_full(out).map_err(output_fault)?;
+        page.turn_full(out)?;
     }
-    finish(walk, page, PlayEnd::Limit, out)
+    Ok(finish(walk, page, PlayEnd::Limit, out)?)
 }
 
-// Hands over what is kept.
+// Hands over what is kept, and says where the run stands.
 fn finish<'p, O: Sink>(
     walk: Walk<'p>,
     page: Page,
     end: PlayEnd<'p>,
     out: &mut O,
-) -> Result<Played<'p>, PlayFault> {
-    let mut page = page;
-    page.turn(out).map_err(output_fault)?;
+) -> Result<Played<'p>, IoFault>
+    ensures end { IfOk result (λ played. played.end ≡ end.entry) }
+    ensures store { IfOk result (λ played. played.store ≡ walk.entry.store) }
+    ensures ok { OnOk result (O.written out.new ≡ append_known (O.written out.old) page.bytes.items) }
+    ensures part { WritesPart (O.written out.old) (O.written out.new) page.bytes.items }
+    ensures cause { HasCause (O.faults out.old) (O.faults out.new) result }
+{
+    let mut last = page;
+    last.turn(out)?;
     let store = walk.into_store();
     Ok(Played { end, store })
 }
 
-// Gives one event, or where the run stands in its place.
+// Gives one event, or says where the run stands. What is kept is handed over before an answer is taken.
 fn step<'p, I: Source, O: Sink>(
     alloc: Global,
     walk: &mut Walk<'p>,
     page: &mut Page,
     input: &mut I,
     out: &mut O,
-) -> Result<Option<PlayEnd<'p>>, PlayFault> {
-    if walk.asks() {
-        page.turn(out).map_err(output_fault)?;
-        match take_answer(input) {
-            Ok(None) => return Ok(Some(PlayEnd::Waits)),
-            Ok(Some(number)) => {
-                if !walk.choose(number)? {
-                    page.rejected()?;
-                    return Ok(None);
-                }
-            }
-            Err(Failed) => return Err(PlayFault::InputFailed),
-        }
+) -> Result<Option<PlayEnd<'p>>, PlayFault>
+    requires { IsSound walk.old }
+    ensures steps { IfOk result (λ end. Steps
+        (spot walk.old (I.left input.old) (O.written out.old) (O.faults out.old) page.old.bytes.items)
+        (spot walk.new (I.left input.new) (O.written out.new) (O.faults out.new) page.new.bytes.items) end) }
+    ensures sound { OnOk result (StaysSound walk.old walk.new) }
+    ensures handed { is_asking walk.old.seat ≡ true → OnOk result (O.written out.new ≡ append_known (O.written out.old) page.old.bytes.items) }
+    ensures part { WritesPart (O.written out.old) (O.written out.new) page.old.bytes.items }
+    ensures taken { TakesFront (I.left input.old) (I.left input.new) }
+    ensures input { IsCause PlayFault.InputFailed (I.faults input.old) (I.faults input.new) result }
+    ensures output { IsCause PlayFault.OutputFailed (O.faults out.old) (O.faults out.new) result }
+{
+    if !walk.asks() {
+        return Ok(show(alloc, walk, page)?);
+    }
+    page.turn(out)?;
+    match take_answer(input) {
+        Ok(None) => Ok(Some(PlayEnd::Waits)),
+        Ok(Some(number)) => Ok(answer(alloc, walk, page, number)?),
+        Err(Failed) => Err(PlayFault::InputFailed),
+    }
+}
+
+// Gives the event that comes where that number is answered.
+fn answer<'p>(
+    alloc: Global,
+    walk: &mut Walk<'p>,
+    page: &mut Page,
+    number: u32,
+) -> Result<Option<PlayEnd<'p>>, Memory>
+    requires sound { IsSound walk.old }
+    requires asks { is_asking walk.old.seat ≡ true }
+    ensures shows { IfOk result (λ end. Shows (Answer number) walk.old page.old.bytes.items end walk.new page.new.bytes.items) }
+    ensures sound { OnOk result (StaysSound walk.old walk.new) }
+{
+    if !walk.choose(number)? {
+        page.rejected()?;
+        return Ok(None);
     }
     show(alloc, walk, page)
 }
@@ -98,7 +146,12 @@ fn show<'p>(
     alloc: Global,
     walk: &mut Walk<'p>,
     page: &mut Page,
-) -> Result<Option<PlayEnd<'p>>, PlayFault> {
+) -> Result<Option<PlayEnd<'p>>, Memory>
+    requires sound { IsSound walk.old }
+    requires goes_on { is_asking walk.old.seat ≡ false }
+    ensures shows { IfOk result (λ end. Shows NoAnswer walk.old page.old.bytes.items end walk.new page.new.bytes.items) }
+    ensures sound { OnOk result (StaysSound walk.old walk.new) }
+{
     match walk.next(alloc)? {
         Turn::NodeStart(_) | Turn::NodeEnd(_) => {}
         Turn::Line(text, values) => page.line(alloc, &text.text, &values)?,
@@ -108,14 +161,4 @@ fn show<'p>(
         Turn::Faults(fault) => return Ok(Some(PlayEnd::Faults(fault))),
     }
     Ok(None)
-}
-
-fn output_fault(fault: IoFault) -> PlayFault
-    ensures failed { result ≡ PlayFault.OutputFailed → fault ≡ IoFault.Failed }
-    ensures never { result ≡ PlayFault.InputFailed → ⊥ }
-{
-    match fault {
-        IoFault::Failed => PlayFault::OutputFailed,
-        IoFault::Memory => PlayFault::Memory,
-    }
 }

@@ -118,6 +118,7 @@ impl<'p> Walk<'p> {
         requires sound { IsSound self.old }
         requires asks { is_asking self.old.seat ≡ true }
         ensures meaning { IfOk result (λ chosen. IsChosen chosen number self.old self.new) }
+        ensures goes_on { IfOk result (λ chosen. chosen ≡ true → is_asking self.new.seat ≡ false) }
         ensures sound { OnOk result (StaysSound self.old self.new) }
     {
         match mem::replace(&mut self.seat, Seat::Finishes) {
