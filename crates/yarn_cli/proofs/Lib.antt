@@ -2,6 +2,7 @@ pub mod CommandLemmas
 pub mod CommandLineLemmas
 pub mod CutLemmas
 pub mod PairsLemmas
+pub mod PlayLemmas
 pub mod ReadLemmas
 pub mod WordsLemmas
 mod TreeLemmas

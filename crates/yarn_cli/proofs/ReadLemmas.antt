@@ -9,7 +9,7 @@ use Rattle.yarn_cli.specs.declared.message.Ended.{Ended}
 use Rattle.yarn_cli.specs.Command.{Command}
 use Rattle.yarn_cli.specs.Ended.{GivesSoFar}
 use Rattle.yarn_cli.specs.Messages.{name_at}
-use Rattle.yarn_cli.specs.Outcome.{trees_of, of_check, of_checked, of_sources_checked, Outcome, of_play, of_project, of_sources, of_file, of_format, of_text, printed}
+use Rattle.yarn_cli.specs.Outcome.{trees_of, of_check, of_checked, of_sources_checked, Outcome, of_file, of_format, of_text, printed}
 use Rattle.yarn_cli.specs.Read.{cut, IsSource, IsAdded, AreCut, AreSources}
 use Rattle.yarn_cli.proofs.CutLemmas.{reading-cut, file_reading-cut}
 use Rattle.yarn_cli.specs.Sources.{Sources, Found, Missing, source_of, with_source, sources_of, IsFound, IsUnread}
@@ -122,26 +122,6 @@ pub Rose-later : (before mid now : ℕ) → before ≤ mid → Rose mid now → 
 Rose-later before mid now le rose = omega (arith, le, rose)
 
 -- what is made of the sources is the outcome
-
-of_play-cut : (command : Command) (named : Named) (names : List (List ℕ)) (files : List SourceFile) → names ≡ command.names →
-    AreCut (sources_of named names) files → of_play command named ≡ of_project command (trees_of (reading_of [] files))
-of_play-cut command named names files is are =
-    ap (λ (n : List (List ℕ)). of_sources command (sources_of named n)) (sym is) ∙ ap (of_sources command) are.found
-    ∙ ap (λ r. of_project command (trees_of r)) (sym (reading-cut are.whole)) ∙ ap (λ (l : List SourceFile). of_project command (trees_of (reading_of [] l))) (sym are.are)
-
-pub play_exact : (told : Option Named) (command : Command) (names : List (List ℕ)) (files : List SourceFile) (ended : Ended) (old new : Option (List ℕ)) →
-    names ≡ command.names → AreSources told names files → GivesSoFar (of_project command (trees_of (reading_of [] files))) ended old new →
-    IfSome told (λ named. GivesSoFar (of_play command named) ended old new)
-play_exact None command names files ended old new is are exact = tt
-play_exact (Some named) command names files ended old new is are exact =
-    subst (λ (o : Outcome). GivesSoFar o ended old new) (sym (of_play-cut command named names files is are)) exact
-
-pub play_part : (told : Option Named) (command : Command) (names : List (List ℕ)) (files : List SourceFile) (old new : Option (List ℕ)) →
-    names ≡ command.names → AreSources told names files → WritesPart old new (of_project command (trees_of (reading_of [] files))).out →
-    IfSome told (λ named. WritesPart old new (of_play command named).out)
-play_part None command names files old new is are part = tt
-play_part (Some named) command names files old new is are part =
-    subst (λ (o : Outcome). WritesPart old new o.out) (sym (of_play-cut command named names files is are)) part
 
 of_check-cut : (command : Command) (named : Named) (names : List (List ℕ)) (files : List SourceFile) → names ≡ command.names →
     AreCut (sources_of named names) files → of_check command named ≡ of_checked command (trees_of (reading_of [] files))

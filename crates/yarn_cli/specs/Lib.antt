@@ -5,6 +5,7 @@ pub mod Found
 pub mod Laws
 pub mod Messages
 pub mod Outcome
+pub mod Playing
 pub mod Answers
 pub mod Kinds
 pub mod Read

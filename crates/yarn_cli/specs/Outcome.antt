@@ -14,7 +14,6 @@ use Rattle.yarn_meaning.specs.Variables.{variables_of, first_store, first_other}
 use Rattle.yarn_store.specs.Reading.{VarsReading, Holds, BadAt, vars_of}
 use Rattle.yarn_store.specs.Variables.{vars_text}
 use Rattle.yarn_player.specs.Transcript.{transcript}
-use Rattle.yarn_tree.specs.declared.refusal.RefusalKind.{RefusalKind}
 use Rattle.yarn_nodes.specs.declared.node.FileLines.{FileLines}
 use Rattle.yarn_infer.specs.Units.{units_of}
 use Rattle.yarn_infer.specs.Typings.{Kinding, Typed, Untyped, Open, kinding_of}

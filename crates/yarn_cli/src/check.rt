@@ -6,7 +6,7 @@ ghost use Rattle.yarn_base.specs.Outside.{WritesPart};
 ghost use Rattle.yarn_tree.specs.Reading.{reading_of};
 ghost use Rattle.yarn_tree.specs.Trees.{file_tree};
 ghost use Rattle.yarn_cli.specs.Ended.{SaysUnread, GivesSoFar};
-ghost use Rattle.yarn_cli.specs.Messages.{cannot_write};
+ghost use Rattle.yarn_cli.specs.Messages.{cannot_write, output};
 ghost use Rattle.yarn_cli.specs.Outcome.{of_check, of_checked, of_kinding, of_counts, kinds_of, trees_of, nodes_in, counts_text, IsPlain, Gives, NamesRead};
 
 use crate::message::{Ended, read_failed, refused_at, write_failed};
@@ -42,7 +42,7 @@ pub fn run_check<F: Files, I: Source, O: Sink, E: Sink>(
     ensures read { result ≡ Status.ReadFault → Rose (F.read_faults files.old) (F.read_faults files.new)
         × NamesRead command.now.names (F.contents files.old) (F.latest_fault files.new) (E.written err.old) (E.written err.new) }
     ensures write { result ≡ Status.WriteFault → Rose (E.faults err.old) (E.faults err.new)
-        ⊎ (Rose (O.faults out.old) (O.faults out.new) × (E.written err.new ≡ append_known (E.written err.old) cannot_write)) }
+        ⊎ (Rose (O.faults out.old) (O.faults out.new) × (E.written err.new ≡ append_known (E.written err.old) (cannot_write output))) }
 
     ensures files { F.contents files.new ≡ F.contents files.old }
     ensures input { input.new ≡ input.old }
@@ -69,7 +69,7 @@ fn check_named<F: Files, O: Sink>(
     ensures read { result.status ≡ Status.ReadFault → Rose (F.read_faults files.old) (F.read_faults files.new)
         × SaysUnread command.now.names (F.contents files.old) (F.latest_fault files.new) result }
     ensures write { result.status ≡ Status.WriteFault →
-        Rose (O.faults out.old) (O.faults out.new) × (string_bytes result.line ≡ cannot_write) }
+        Rose (O.faults out.old) (O.faults out.new) × (string_bytes result.line ≡ cannot_write output) }
     ensures files { F.contents files.new ≡ F.contents files.old }
     ensures read_count { F.read_faults files.old ≤ F.read_faults files.new }
     ensures write_count { F.write_faults files.new ≡ F.write_faults files.old }
@@ -93,7 +93,7 @@ fn check_sources<O: Sink>(
         GivesSoFar (of_checked command.now (trees_of (reading_of [] sources))) result (O.written out.old) (O.written out.new) }
     ensures part { WritesPart (O.written out.old) (O.written out.new) (of_checked command.now (trees_of (reading_of [] sources))).out }
     ensures write { result.status ≡ Status.WriteFault →
-        Rose (O.faults out.old) (O.faults out.new) × (string_bytes result.line ≡ cannot_write) }
+        Rose (O.faults out.old) (O.faults out.new) × (string_bytes result.line ≡ cannot_write output) }
     ensures no_read { result.status ≡ Status.ReadFault → ⊥ }
     ensures count { O.faults out.old ≤ O.faults out.new }
 {
@@ -112,7 +112,7 @@ fn check_project<O: Sink>(alloc: Global, command: &Command, project: &Project, o
     ensures part { WritesPart (O.written out.old) (O.written out.new)
         (of_kinding command.now.names (kinds_of (map file_tree project.now.files)) (of_counts (map file_tree project.now.files))).out }
     ensures write { result.status ≡ Status.WriteFault →
-        Rose (O.faults out.old) (O.faults out.new) × (string_bytes result.line ≡ cannot_write) }
+        Rose (O.faults out.old) (O.faults out.new) × (string_bytes result.line ≡ cannot_write output) }
     ensures no_read { result.status ≡ Status.ReadFault → ⊥ }
     ensures count { O.faults out.old ≤ O.faults out.new }
 {
@@ -128,7 +128,7 @@ fn write_counts<O: Sink>(alloc: Global, project: &Project, typing: &Typing, out:
         × (O.written out.new ≡ append_known (O.written out.old) (counts_text (map file_tree project.now.files) typing.now.entries)) }
     ensures part { WritesPart (O.written out.old) (O.written out.new) (counts_text (map file_tree project.now.files) typing.now.entries) }
     ensures write { result.status ≡ Status.WriteFault →
-        Rose (O.faults out.old) (O.faults out.new) × (string_bytes result.line ≡ cannot_write) }
+        Rose (O.faults out.old) (O.faults out.new) × (string_bytes result.line ≡ cannot_write output) }
     ensures no_read { result.status ≡ Status.ReadFault → ⊥ }
     ensures count { O.faults out.old ≤ O.faults out.new }
 {
@@ -137,7 +137,7 @@ fn write_counts<O: Sink>(alloc: Global, project: &Project, typing: &Typing, out:
     };
     match write_all(out, line.as_bytes()) {
         Ok(()) => Ended::with_line(alloc, Status::Done, Ok(String::new(alloc))),
-        Err(IoFault::Failed) => write_failed(alloc),
+        Err(IoFault::Failed) => write_failed(alloc, "output"),
         Err(IoFault::Memory) => Ended::out_of_memory(alloc),
     }
 }

@@ -3,7 +3,7 @@ ghost use Rattle.std.specs.Prelude.{◌≡◌, ◌<◌, [], ◌∷◌, ◌++◌,
 ghost use Rattle.std.specs.List.{list_all};
 ghost use Rattle.std.specs.Option.{option_copied};
 ghost use Rattle.yarn_cli.specs.declared.command.Pair.{Pair};
-ghost use Rattle.yarn_cli.specs.Command.{value_of, start_of, limit_of};
+ghost use Rattle.yarn_cli.specs.Command.{value_of, start_of, limit_of, vars_name_of, save_vars_of};
 ghost use Rattle.yarn_cli.specs.CommandLine.{are_names_of, is_count_of, row_in, rows_of};
 ghost use Rattle.yarn_cli.specs.Found.{command_of, found_behind, given, with_names, with_pair};
 ghost use Rattle.yarn_cli.specs.Laws.{WordsSay};
@@ -228,5 +228,19 @@ impl Command {
             Some(word) => number_in_word(word.as_str(), 1, 1000000000).unwrap_or(100000),
             None => 100000,
         }
+    }
+
+    /// The name of the file with the variables to begin with, where one was given.
+    pub(crate) fn vars(&self) -> Option<&Text>
+        ensures { option_copied result ≡ vars_name_of self.now }
+    {
+        value_in(self.pairs.as_slice(), "vars")
+    }
+
+    /// The name of the file to which the variables are written, where one was given.
+    pub(crate) fn save_vars(&self) -> Option<&Text>
+        ensures { option_copied result ≡ save_vars_of self.now }
+    {
+        value_in(self.pairs.as_slice(), "save-vars")
     }
 }

@@ -5,7 +5,7 @@ ghost use Rattle.yarn_base.specs.Causes.{Rose};
 ghost use Rattle.yarn_base.specs.Outside.{WritesPart};
 ghost use Rattle.yarn_tree.specs.Reading.{Answers, file_reading_of};
 ghost use Rattle.yarn_cli.specs.Ended.{SaysUnread, GivesSoFar};
-ghost use Rattle.yarn_cli.specs.Messages.{cannot_write};
+ghost use Rattle.yarn_cli.specs.Messages.{cannot_write, output};
 ghost use Rattle.yarn_cli.specs.Outcome.{of_format, of_text, printed, IsPlain, Gives, NamesRead};
 
 use crate::message::{Ended, read_failed, refused_at, write_failed};
@@ -39,7 +39,7 @@ pub fn run_format<F: Files, I: Source, O: Sink, E: Sink>(
     ensures read { result ≡ Status.ReadFault → Rose (F.read_faults files.old) (F.read_faults files.new)
         × NamesRead command.now.names (F.contents files.old) (F.latest_fault files.new) (E.written err.old) (E.written err.new) }
     ensures write { result ≡ Status.WriteFault → Rose (E.faults err.old) (E.faults err.new)
-        ⊎ (Rose (O.faults out.old) (O.faults out.new) × (E.written err.new ≡ append_known (E.written err.old) cannot_write)) }
+        ⊎ (Rose (O.faults out.old) (O.faults out.new) × (E.written err.new ≡ append_known (E.written err.old) (cannot_write output))) }
 
     ensures files { F.contents files.new ≡ F.contents files.old }
     ensures input { input.new ≡ input.old }
@@ -66,7 +66,7 @@ fn format_named<F: Files, O: Sink>(
     ensures read { result.status ≡ Status.ReadFault → Rose (F.read_faults files.old) (F.read_faults files.new)
         × SaysUnread command.now.names (F.contents files.old) (F.latest_fault files.new) result }
     ensures write { result.status ≡ Status.WriteFault →
-        Rose (O.faults out.old) (O.faults out.new) × (string_bytes result.line ≡ cannot_write) }
+        Rose (O.faults out.old) (O.faults out.new) × (string_bytes result.line ≡ cannot_write output) }
     ensures files { F.contents files.new ≡ F.contents files.old }
     ensures read_count { F.read_faults files.old ≤ F.read_faults files.new }
     ensures write_count { F.write_faults files.new ≡ F.write_faults files.old }
@@ -92,7 +92,7 @@ fn format_source<O: Sink>(
     ensures part { WritesPart (O.written out.old) (O.written out.new)
         (of_text command.now.names (printed (file_reading_of source))).out }
     ensures write { result.status ≡ Status.WriteFault →
-        Rose (O.faults out.old) (O.faults out.new) × (string_bytes result.line ≡ cannot_write) }
+        Rose (O.faults out.old) (O.faults out.new) × (string_bytes result.line ≡ cannot_write output) }
     ensures no_read { result.status ≡ Status.ReadFault → ⊥ }
     ensures count { O.faults out.old ≤ O.faults out.new }
 {
@@ -124,13 +124,13 @@ fn write_text<O: Sink>(alloc: Global, text: &Text, out: &mut O) -> Ended
         × (O.written out.new ≡ append_known (O.written out.old) text.now) }
     ensures part { WritesPart (O.written out.old) (O.written out.new) text.now }
     ensures write { result.status ≡ Status.WriteFault →
-        Rose (O.faults out.old) (O.faults out.new) × (string_bytes result.line ≡ cannot_write) }
+        Rose (O.faults out.old) (O.faults out.new) × (string_bytes result.line ≡ cannot_write output) }
     ensures no_read { result.status ≡ Status.ReadFault → ⊥ }
     ensures count { O.faults out.old ≤ O.faults out.new }
 {
     match write_all(out, text.as_str().as_bytes()) {
         Ok(()) => Ended::with_line(alloc, Status::Done, Ok(String::new(alloc))),
-        Err(IoFault::Failed) => write_failed(alloc),
+        Err(IoFault::Failed) => write_failed(alloc, "output"),
         Err(IoFault::Memory) => Ended::out_of_memory(alloc),
     }
 }

@@ -13,6 +13,7 @@ mod row;
 mod run;
 mod status;
 mod typing;
+mod vars;
 mod words;
 
 pub use check::run_check;

@@ -2,7 +2,7 @@
 ghost use Rattle.std.specs.Prelude.{◌≡◌, ◌≤◌, ◌⊎◌, IfOk, string_bytes};
 ghost use Rattle.std.specs.Io.KnownBytes.{append_known};
 ghost use Rattle.yarn_base.specs.Causes.{Rose};
-ghost use Rattle.yarn_cli.specs.Messages.{cannot_read, cannot_write, kind_text, name_at, refused, usage};
+ghost use Rattle.yarn_cli.specs.Messages.{bad_variable as bad_variable_text, bad_vars, cannot_read, cannot_write, file_refused, kind_text, name_at, refused, usage};
 ghost use Rattle.yarn_cli.specs.Ended.{Tells};
 
 use crate::Status;
@@ -105,15 +105,15 @@ pub(crate) fn read_failed(alloc: Global, file: &str) -> Ended
     )
 }
 
-/// The output can't be written.
-pub(crate) fn write_failed(alloc: Global) -> Ended
+/// A file, or the output, can't be written.
+pub(crate) fn write_failed(alloc: Global, name: &str) -> Ended
     ensures cases { (result.status ≡ Status.WriteFault) ⊎ (result.status ≡ Status.OutOfMemory) }
-    ensures line { result.status ≡ Status.WriteFault → string_bytes result.line ≡ cannot_write }
+    ensures line { result.status ≡ Status.WriteFault → string_bytes result.line ≡ cannot_write name.now }
 {
     Ended::with_line(
         alloc,
         Status::WriteFault,
-        String::from_str(alloc, "cannot write output\n"),
+        format!(in alloc; "cannot write {name}\n"),
     )
 }
 
@@ -138,6 +138,40 @@ pub(crate) fn refused_as(alloc: Global, names: &Words, name: &str, place: Place)
         Status::RefusedProject,
         format!(in alloc; "{file}:{line}: {name}\n"),
     )
+}
+
+/// A variables file is refused for that fault.
+pub(crate) fn refused_vars(alloc: Global, file: &str, fault: &str) -> Ended
+    ensures cases { (result.status ≡ Status.RefusedVars) ⊎ (result.status ≡ Status.OutOfMemory) }
+    ensures line { result.status ≡ Status.RefusedVars → string_bytes result.line ≡ file_refused file.now fault.now }
+{
+    Ended::with_line(
+        alloc,
+        Status::RefusedVars,
+        format!(in alloc; "{file}: {fault}\n"),
+    )
+}
+
+/// A line of a variables file is bad.
+pub(crate) fn bad_line(alloc: Global, file: &str, line: u32) -> Ended
+    ensures cases { (result.status ≡ Status.RefusedVars) ⊎ (result.status ≡ Status.OutOfMemory) }
+    ensures line { result.status ≡ Status.RefusedVars → string_bytes result.line ≡ file_refused file.now (bad_vars line) }
+{
+    match format!(in alloc; "BadVars {line}") {
+        Ok(fault) => refused_vars(alloc, file, fault.as_str()),
+        Err(_) => Ended::out_of_memory(alloc),
+    }
+}
+
+/// A variable of the project has a value of another kind in the variables file.
+pub(crate) fn bad_variable(alloc: Global, file: &str, name: &str) -> Ended
+    ensures cases { (result.status ≡ Status.RefusedVars) ⊎ (result.status ≡ Status.OutOfMemory) }
+    ensures line { result.status ≡ Status.RefusedVars → string_bytes result.line ≡ file_refused file.now (bad_variable_text name.now) }
+{
+    match format!(in alloc; "BadVariable {name}") {
+        Ok(fault) => refused_vars(alloc, file, fault.as_str()),
+        Err(_) => Ended::out_of_memory(alloc),
+    }
 }
 
 /// The name at that place among these.

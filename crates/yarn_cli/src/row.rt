@@ -43,6 +43,8 @@ fn play_row(word: &str) -> Option<Row>
     match word {
         "--start" => row("start", Form::Name),
         "--limit" => row("limit", Form::Number(1, 1000000000)),
+        "--vars" => row("vars", Form::Name),
+        "--save-vars" => row("save-vars", Form::Name),
         _ => None,
     }
 }

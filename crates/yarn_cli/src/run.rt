@@ -1,10 +1,13 @@
 //! The top call: reads the words, and runs the command that they are.
-ghost use Rattle.std.specs.Prelude.{◌≡◌, ◌≤◌, ◌⊎◌, IfSome};
+ghost use Rattle.std.specs.Prelude.{◌≡◌, ◌≤◌, ◌⊎◌};
 ghost use Rattle.std.specs.Io.KnownBytes.{append_known};
 ghost use Rattle.yarn_base.specs.Causes.{Rose};
 ghost use Rattle.yarn_base.specs.Outside.{WritesPart};
-ghost use Rattle.yarn_cli.specs.Messages.{cannot_write};
-ghost use Rattle.yarn_cli.specs.Outcome.{outcome_of, of_command, IsPlain, Gives, NamesRead, NamesReadOf};
+ghost use Rattle.yarn_player.specs.Played.{TakesFront};
+ghost use Rattle.yarn_cli.specs.Command.{save_vars_of};
+ghost use Rattle.yarn_cli.specs.Found.{command_of};
+ghost use Rattle.yarn_cli.specs.Messages.{cannot_read, cannot_write, input as input_name, output as output_name};
+ghost use Rattle.yarn_cli.specs.Outcome.{outcome_of, of_command, read_names, saved_by, ChangesSaved, ChangesSavedOf, GivesWhole, IsPlain, NamesRead, NamesReadOf, NamesWritten, Told};
 
 use crate::message::{say_out_of_memory, say_usage};
 use crate::{Command, CommandKind, Status, read_words, run_check, run_format, run_play};
@@ -67,14 +70,14 @@ fn run_command<F: Files, I: Source, O: Sink, E: Sink>(
     ensures part { Told (F.contents files.old) (I.left input.old) (λ named bytes.
         WritesPart (O.written out.old) (O.written out.new) (of_command command.now named bytes).outcome.out) }
     ensures taken { TakesFront (I.left input.old) (I.left input.new) }
-    ensures files { ChangesSaved (saved_by (Some command.now)) (F.contents files.old) (F.contents files.new) }
+    ensures files { ChangesSaved (save_vars_of command.now) (F.contents files.old) (F.contents files.new) }
 
     ensures read { result ≡ Status.ReadFault → (Rose (F.read_faults files.old) (F.read_faults files.new)
-        × NamesRead (names_read_by command.now) (F.contents files.old) (F.latest_fault files.new) (E.written err.old) (E.written err.new))
+        × NamesRead (read_names command.now) (F.contents files.old) (F.latest_fault files.new) (E.written err.old) (E.written err.new))
         ⊎ (Rose (I.faults input.old) (I.faults input.new) × (E.written err.new ≡ append_known (E.written err.old) (cannot_read input_name))) }
     ensures write { result ≡ Status.WriteFault → Rose (E.faults err.old) (E.faults err.new)
         ⊎ (Rose (O.faults out.old) (O.faults out.new) × (E.written err.new ≡ append_known (E.written err.old) (cannot_write output_name)))
-        ⊎ (Rose (F.write_faults files.old) (F.write_faults files.new) × NamesWritten (saved_by (Some command.now)) (E.written err.old) (E.written err.new)) }
+        ⊎ (Rose (F.write_faults files.old) (F.write_faults files.new) × NamesWritten (save_vars_of command.now) (E.written err.old) (E.written err.new)) }
 
     ensures read_count { F.read_faults files.old ≤ F.read_faults files.new }
     ensures write_count { F.write_faults files.old ≤ F.write_faults files.new }

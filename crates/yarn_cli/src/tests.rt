@@ -1,8 +1,10 @@
+ghost use Rattle.std.specs.Prelude.{◌≤◌};
+
 use crate::{Command, CommandKind, Status, read_words, run_yarn};
 use std::alloc::{AllocError, Global};
 use std::process::Abort;
 use std::test::Fail;
-use yarn_base::{List, Memory, MemoryFiles, MemorySink, MemorySource, Text, Words};
+use yarn_base::{List, Memory, MemoryFiles, MemorySink, MemorySource, Source, Text, Words};
 
 const HELLO: &str = "title: Start\n---\nHello\n===\n";
 
@@ -22,6 +24,11 @@ const SAME_ID: &str = "title: Start\n---\nHi #line:a\nHi #line:a\n===\n";
 const TO_OTHER: &str = "title: Start\n---\nHello\n<<jump Other>>\n===\n";
 
 const OTHER: &str = "title: Other\n---\nThere\n===\n";
+
+const YES_NO: &str = "title: Start\n---\n-> Yes\n    Good. #line:good\n-> No <<if false>>\n===\n";
+
+const GOLD: &str =
+    "title: Start\n---\n<<declare $gold = 1>>\n<<declare $who = \"x\">>\n{$gold} {visited_count(\"Start\")}\n<<set $gold += 1>>\n===\n";
 
 const USAGE: &str = "usage: yarn check|format|strings|tag|compile|list|play|run|resume|demo\n";
 
@@ -45,10 +52,12 @@ struct Outside {
 }
 
 impl Outside {
-    fn new(alloc: Global) -> Result<Outside, Memory> {
+    fn new(alloc: Global, answers: &str, piece: usize) -> Result<Outside, Memory>
+        requires { 1 ≤ piece }
+    {
         Ok(Outside {
             files: MemoryFiles::new(alloc),
-            input: MemorySource::new(alloc, bytes_of(alloc, "1\n2\n")?, 1),
+            input: MemorySource::new(alloc, bytes_of(alloc, answers)?, piece),
             out: MemorySink::new(alloc),
             err: MemorySink::new(alloc),
         })
@@ -65,7 +74,7 @@ fn bytes_of(alloc: Global, text: &str) -> Result<List<u8>, Memory> {
 }
 
 fn make_outside(alloc: Global, first: &str, second: &str) -> Result<Outside, Memory> {
-    let mut to = Outside::new(alloc)?;
+    let mut to = Outside::new(alloc, "1\n2\n", 1)?;
     to.put(alloc, "a.yarn", bytes_of(alloc, first)?)?;
     to.put(alloc, "b.yarn", bytes_of(alloc, second)?)?;
     Ok(to)
@@ -104,7 +113,7 @@ fn shown(alloc: Global, command: &Command) -> Result<String, AllocError> {
         CommandKind::Play => String::from_str(alloc, "play")?,
         CommandKind::Format => String::from_str(alloc, "format")?,
     };
-    for name in ["start", "limit"] {
+    for name in ["start", "limit", "vars", "save-vars"] {
         let name = Text::from_string(String::from_str(alloc, name)?);
         if let Some(value) = command.pair(&name) {
             text.push_str(" --")?;
@@ -130,7 +139,7 @@ fn found(alloc: Global, words: &[&str]) -> Result<String, Memory> {
 #[test]
 fn words_are_the_commands_that_the_pages_say(rt: HostRuntime) -> Result<(), Fail> {
     let alloc = rt.alloc();
-    let cases: [WordsCase; 36] = [
+    let cases: [WordsCase; 40] = [
         ("play", &["play", "a"], "play a"),
         ("files", &["play", "a", "b", "a"], "play a b a"),
         ("format", &["format", "a"], "format a"),
@@ -169,6 +178,16 @@ fn words_are_the_commands_that_the_pages_say(rt: HostRuntime) -> Result<(), Fail
             &["play", "--start", "no title", "a"],
             "play --start no title a",
         ),
+        (
+            "files of variables",
+            &["play", "--save-vars", "w", "--vars", "v", "a"],
+            "play --vars v --save-vars w a",
+        ),
+        (
+            "one file of variables",
+            &["play", "--vars", "v", "--save-vars", "v", "v"],
+            "play --vars v --save-vars v v",
+        ),
         ("no words", &[], "none"),
         ("empty word", &[""], "none"),
         ("other word", &["Play", "a"], "none"),
@@ -180,6 +199,7 @@ fn words_are_the_commands_that_the_pages_say(rt: HostRuntime) -> Result<(), Fail
         ("no file to format", &["format"], "none"),
         ("two files to format", &["format", "a", "b"], "none"),
         ("pair of play", &["format", "--limit", "1", "a"], "none"),
+        ("variables to check", &["check", "--vars", "v", "a"], "none"),
         ("limit 0", &["play", "--limit", "0", "a"], "none"),
         ("no digits", &["play", "--limit", "", "a"], "none"),
         ("signed limit", &["play", "--limit", "+4", "a"], "none"),
@@ -206,6 +226,11 @@ fn words_are_the_commands_that_the_pages_say(rt: HostRuntime) -> Result<(), Fail
         (
             "start twice",
             &["play", "--start", "A", "--limit", "3", "--start", "B", "a"],
+            "none",
+        ),
+        (
+            "variables twice",
+            &["play", "--vars", "v", "--vars", "w", "a"],
             "none",
         ),
         ("pair without value", &["play", "--limit"], "none"),
@@ -240,7 +265,7 @@ fn expect_all(rt: &impl Abort, alloc: Global, cases: &[Case]) -> Result<(), Memo
 #[test]
 fn each_play_ends_as_the_pages_say(rt: HostRuntime) -> Result<(), Fail> {
     let play: &[&str] = &["play", "a.yarn"];
-    let cases: [Case; 28] = [
+    let cases: [Case; 27] = [
         ("hello", HELLO, play, 0, "Hello\n", ""),
         ("empty", "title: Start\n---\n===\n", play, 0, "", ""),
         ("no nodes", "\n\n", play, 12, "", "no node Start\n"),
@@ -393,36 +418,21 @@ fn each_play_ends_as_the_pages_say(rt: HostRuntime) -> Result<(), Fail> {
             "option",
             "title: Start\n---\n-> A\n===\n",
             play,
-            2,
+            0,
+            "1) A\n",
             "",
-            "a.yarn:3: NotBuilt\n",
         ),
         (
             "command",
-            "title: Start\n---\n<<wait>>\n===\n",
+            "title: Start\n---\n<<give_item {1 + 1} \"a\">>\n===\n",
             play,
-            2,
+            0,
+            "<<give_item 2 \"a\">>\n",
             "",
-            "a.yarn:3: NotBuilt\n",
         ),
+        ("no typing", NO_TYPING, play, 2, "", "a.yarn:4: NoTyping\n"),
         (
-            "bad before not built",
-            "hello\ntitle: Start\n---\n{1}\n===\n",
-            play,
-            2,
-            "",
-            "a.yarn:1: BadLine\n",
-        ),
-        (
-            "no typing before not built",
-            NO_TYPING,
-            play,
-            2,
-            "",
-            "a.yarn:4: NoTyping\n",
-        ),
-        (
-            "many typings before not built",
+            "many typings",
             MANY_TYPINGS,
             play,
             2,
@@ -439,6 +449,294 @@ fn each_play_ends_as_the_pages_say(rt: HostRuntime) -> Result<(), Fail> {
         ),
     ];
     expect_all(&rt, rt.alloc(), &cases)?;
+    Ok(())
+}
+
+#[test]
+fn each_value_and_fault_is_as_the_pages_say(rt: HostRuntime) -> Result<(), Fail> {
+    let play: &[&str] = &["play", "a.yarn"];
+    let cases: [Case; 9] = [
+        (
+            "all closed",
+            "title: Start\n---\nHi\n-> Never <<if false>>\n    x\n===\n",
+            play,
+            1,
+            "Hi\n1) [closed] Never\n",
+            "a.yarn:4: Start: NoOpenOption\n",
+        ),
+        (
+            "division by zero",
+            "title: Start\n---\n<<set $x = 1 / 0>>\n===\n",
+            play,
+            1,
+            "",
+            "a.yarn:3: Start: DivideByZero\n",
+        ),
+        (
+            "both sides",
+            "title: Start\n---\n{false and 1 / 0 == 1}\n===\n",
+            play,
+            1,
+            "",
+            "a.yarn:3: Start: DivideByZero\n",
+        ),
+        (
+            "inexact",
+            "title: Start\n---\n{7 / 2}\n===\n",
+            play,
+            1,
+            "",
+            "a.yarn:3: Start: Inexact\n",
+        ),
+        (
+            "overflow",
+            "title: Start\n---\n{9223372036854775807 + 1}\n===\n",
+            play,
+            1,
+            "",
+            "a.yarn:3: Start: Overflow\n",
+        ),
+        (
+            "bad number",
+            "title: Start\n---\n{number(\"x\")}\n===\n",
+            play,
+            1,
+            "",
+            "a.yarn:3: Start: BadNumber\n",
+        ),
+        (
+            "bad truth",
+            "title: Start\n---\n{bool(\"x\")}\n===\n",
+            play,
+            1,
+            "",
+            "a.yarn:3: Start: BadBool\n",
+        ),
+        (
+            "jump to nowhere",
+            "title: Start\n---\n<<jump {\"No\" + \"where\"}>>\n===\n",
+            play,
+            1,
+            "",
+            "a.yarn:3: Start: UnknownNode Nowhere\n",
+        ),
+        (
+            "counts",
+            "title: Start\n---\n{visited_count(\"Start\")} {visited(\"Start\")}\n<<if visited_count(\"Start\") < 2>>\n<<jump Start>>\n<<endif>>\n===\n",
+            play,
+            0,
+            "0 False\n1 True\n2 True\n",
+            "",
+        ),
+    ];
+    expect_all(&rt, rt.alloc(), &cases)?;
+    Ok(())
+}
+
+/// A play of YES_NO: the words, the answers; the status, what is written, what is said, and the answers that are left.
+type AnswersCase<'a> = (&'a [&'a str], &'a str, u8, &'a str, &'a str, &'a str);
+
+// The bytes that are left, of which there are at most ten.
+fn left_in(alloc: Global, input: &mut MemorySource) -> Result<List<u8>, Memory> {
+    let mut left = List::new(alloc);
+    for _ in 0..10 {
+        let mut byte = [0u8];
+        if let Ok(1) = input.read(&mut byte) {
+            left.push(byte[0]).map_err(|_| Memory)?;
+        }
+    }
+    Ok(left)
+}
+
+// The play ends as its row says, where the answers come in pieces of that size.
+fn expect_answered(
+    rt: &impl Abort,
+    alloc: Global,
+    case: &AnswersCase,
+    piece: usize,
+) -> Result<(), Memory>
+    requires { 1 ≤ piece }
+{
+    let (words, answers, number, out, err, left) = *case;
+    let mut to = Outside::new(alloc, answers, piece)?;
+    to.put(alloc, "a.yarn", bytes_of(alloc, YES_NO)?)?;
+    let status = run(alloc, &words_of(alloc, words)?, &mut to);
+    expect(rt, answers, (number, out, err), status, &to);
+    assert_eq!(rt;
+        left_in(alloc, &mut to.input)?.as_slice(),
+        left.as_bytes(),
+        "{answers}"
+    );
+    Ok(())
+}
+
+#[test]
+fn answers_are_taken_in_any_pieces(rt: HostRuntime) -> Result<(), Fail> {
+    let alloc = rt.alloc();
+    let play: &[&str] = &["play", "a.yarn"];
+    let offered = "1) Yes\n2) [closed] No\n";
+    let cases: [AnswersCase; 6] = [
+        (play, "1\n", 0, "1) Yes\n2) [closed] No\nGood.\n", "", ""),
+        (
+            play,
+            "1\n2\n",
+            0,
+            "1) Yes\n2) [closed] No\nGood.\n",
+            "",
+            "2\n",
+        ),
+        (
+            play,
+            "9\nx\n",
+            3,
+            "1) Yes\n2) [closed] No\n(no such choice)\n(no such choice)\n",
+            "waiting for a choice\n",
+            "",
+        ),
+        (
+            play,
+            "2\n1\n",
+            0,
+            "1) Yes\n2) [closed] No\n(no such choice)\nGood.\n",
+            "",
+            "",
+        ),
+        (play, "", 3, offered, "waiting for a choice\n", ""),
+        (
+            &["play", "--limit", "2", "a.yarn"],
+            "1\n",
+            4,
+            offered,
+            "event limit\n",
+            "1\n",
+        ),
+    ];
+    for case in &cases {
+        expect_answered(&rt, alloc, case, 1)?;
+        expect_answered(&rt, alloc, case, 100)?;
+    }
+    Ok(())
+}
+
+/// A play of GOLD with a file `w.txt`: the text of `v.txt`, the words; the status, what is written, what is said, and the text
+/// of `w.txt` then.
+type VarsCase<'a> = (&'a str, &'a [&'a str], u8, &'a str, &'a str, &'a str);
+
+// The bytes of the file of that name, and none where it isn't there.
+fn bytes_under<'f>(files: &'f MemoryFiles, name: &Text) -> &'f [u8] {
+    match files.contents(name) {
+        Some(bytes) => bytes.as_slice(),
+        None => &[],
+    }
+}
+
+// The play ends as its row says, and leaves those variables.
+fn expect_stored(rt: &impl Abort, alloc: Global, case: &VarsCase) -> Result<(), Memory> {
+    let (vars, words, number, out, err, saved) = *case;
+    let mut to = make_outside(alloc, GOLD, HELLO)?;
+    to.put(alloc, "v.txt", bytes_of(alloc, vars)?)?;
+    to.put(alloc, "w.txt", bytes_of(alloc, "old\n")?)?;
+    let status = run(alloc, &words_of(alloc, words)?, &mut to);
+    expect(rt, vars, (number, out, err), status, &to);
+    let name = Text::from_str(alloc, "w.txt")?;
+    assert_eq!(rt; bytes_under(&to.files, &name), saved.as_bytes(), "{vars}");
+    Ok(())
+}
+
+#[test]
+fn variables_are_kept_in_files(rt: HostRuntime) -> Result<(), Fail> {
+    let alloc = rt.alloc();
+    let both: &[&str] = &["play", "--vars", "v.txt", "--save-vars", "w.txt", "a.yarn"];
+    let stored = "$gold = 7\n$Yarn.Internal.Visiting.Start = 3\n";
+    let cases: [VarsCase; 8] = [
+        (
+            stored,
+            both,
+            0,
+            "7 3\n",
+            "",
+            "$gold = 8\n$Yarn.Internal.Visiting.Start = 4\n$who = \"x\"\n",
+        ),
+        (
+            stored,
+            &["play", "--vars", "v.txt", "a.yarn"],
+            0,
+            "7 3\n",
+            "",
+            "old\n",
+        ),
+        (
+            stored,
+            &[
+                "play",
+                "--save-vars",
+                "w.txt",
+                "--limit",
+                "2",
+                "--vars",
+                "v.txt",
+                "a.yarn",
+            ],
+            4,
+            "7 3\n",
+            "event limit\n",
+            "$gold = 7\n$Yarn.Internal.Visiting.Start = 3\n$who = \"x\"\n",
+        ),
+        (
+            "$gold = true\n",
+            both,
+            9,
+            "",
+            "v.txt: BadVariable $gold\n",
+            "old\n",
+        ),
+        ("$gold = 01\n", both, 9, "", "v.txt: BadVars 1\n", "old\n"),
+        (
+            stored,
+            &["play", "--vars", "no.txt", "--save-vars", "w.txt", "a.yarn"],
+            6,
+            "",
+            "cannot read no.txt\n",
+            "old\n",
+        ),
+        (
+            "$gold = true\n",
+            &[
+                "play",
+                "--vars",
+                "v.txt",
+                "--save-vars",
+                "w.txt",
+                "--start",
+                "Nope",
+                "a.yarn",
+            ],
+            12,
+            "",
+            "no node Nope\n",
+            "old\n",
+        ),
+        (
+            "$gold = 01\n",
+            &[
+                "play",
+                "--vars",
+                "v.txt",
+                "--save-vars",
+                "w.txt",
+                "--start",
+                "Nope",
+                "a.yarn",
+            ],
+            12,
+            "",
+            "no node Nope\n",
+            "old\n",
+        ),
+    ];
+    for case in &cases {
+        expect_stored(&rt, alloc, case)?;
+    }
     Ok(())
 }
 
@@ -698,6 +996,8 @@ fn several_files_are_one_project(rt: HostRuntime) -> Result<(), Fail> {
 #[derive(Clone, Copy, Debug)]
 enum Fails {
     Read(u64),
+    Write,
+    Input,
     Output,
     Message,
 }
@@ -706,32 +1006,72 @@ impl Outside {
     fn fail(&mut self, call: Fails) -> Result<(), Memory> {
         match call {
             Fails::Read(nth) => self.files.fail_read(nth),
+            Fails::Write => self.files.fail_write(1),
+            Fails::Input => self.input.fail(1),
             Fails::Output => self.out.fail(1),
             Fails::Message => self.err.fail(1),
         }
     }
 }
 
-/// A run over `a.yarn` with that text: the call that fails, the words, and how it ends.
-type FailsCase<'a> = (Fails, &'a str, &'a [&'a str], u8, &'a str);
+/// A run over `a.yarn` with that text: the call that fails, the text, the words, and how it ends.
+type FailsCase<'a> = (Fails, &'a str, &'a [&'a str], u8, &'a str, &'a str);
 
 #[test]
 fn a_call_that_fails_is_told(rt: HostRuntime) -> Result<(), Fail> {
     let alloc = rt.alloc();
     let play: &[&str] = &["play", "a.yarn", "b.yarn"];
     let format: &[&str] = &["format", "a.yarn"];
-    let cases: [FailsCase; 5] = [
-        (Fails::Read(1), TO_OTHER, play, 6, "cannot read a.yarn\n"),
-        (Fails::Read(2), "hello\n", play, 6, "cannot read b.yarn\n"),
-        (Fails::Output, TO_OTHER, play, 7, "cannot write output\n"),
-        (Fails::Output, TO_OTHER, format, 7, "cannot write output\n"),
-        (Fails::Message, "hello\n", format, 7, ""),
+    let save: &[&str] = &["play", "--save-vars", "w.txt", "a.yarn"];
+    let cases: [FailsCase; 7] = [
+        (
+            Fails::Read(1),
+            TO_OTHER,
+            play,
+            6,
+            "",
+            "cannot read a.yarn\n",
+        ),
+        (
+            Fails::Read(2),
+            "hello\n",
+            play,
+            6,
+            "",
+            "cannot read b.yarn\n",
+        ),
+        (
+            Fails::Input,
+            YES_NO,
+            play,
+            6,
+            "1) Yes\n2) [closed] No\n",
+            "cannot read input\n",
+        ),
+        (Fails::Write, GOLD, save, 7, "1 0\n", "cannot write w.txt\n"),
+        (
+            Fails::Output,
+            TO_OTHER,
+            play,
+            7,
+            "",
+            "cannot write output\n",
+        ),
+        (
+            Fails::Output,
+            TO_OTHER,
+            format,
+            7,
+            "",
+            "cannot write output\n",
+        ),
+        (Fails::Message, "hello\n", format, 7, "", ""),
     ];
-    for (call, text, words, number, err) in cases {
+    for (call, text, words, number, out, err) in cases {
         let mut to = make_outside(alloc, text, OTHER)?;
         to.fail(call)?;
         let status = run(alloc, &words_of(alloc, words)?, &mut to);
-        expect(&rt, err, (number, "", err), status, &to);
+        expect(&rt, err, (number, out, err), status, &to);
     }
     Ok(())
 }

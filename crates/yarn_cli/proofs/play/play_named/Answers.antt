@@ -1,17 +1,21 @@
-use Rattle.std.proofs.Common.{◌∙◌}
-use Rattle.yarn_base.proofs.Written.{WritesPart-none, IfSome-always}
-use Rattle.yarn_cli.proofs.ReadLemmas.{play_exact, play_part}
+use Rattle.std.proofs.Common.{[], Option, subst}
+use Rattle.yarn_base.specs.Outside.{Named}
+use Rattle.yarn_tree.specs.Reading.{reading_of}
+use Rattle.yarn_cli.specs.Outcome.{of_project, trees_of}
+use Rattle.yarn_cli.specs.Playing.{vars_seen, PlaysAs}
+use Rattle.yarn_cli.proofs.PlayLemmas.{inputs-play}
 use Rattle.yarn_cli.proofs.play.play_named.Goals as goal
 
-pub returns-in-Sources-clause-exact : goal.returns-in-Sources-clause-exact
-returns-in-Sources-clause-exact g c plain =
-    play_exact _ c.args.command.now _ c.in-Sources.sources c.play_sources.result _ _ (c.as_slice.ensures ∙ c.names.ensures) c.in-Sources.ensures.read
-    (c.play_sources.ensures.exact plain)
-
-pub returns-in-Sources-clause-part : goal.returns-in-Sources-clause-part
-returns-in-Sources-clause-part g c =
-    play_part _ c.args.command.now _ c.in-Sources.sources _ _ (c.as_slice.ensures ∙ c.names.ensures) c.in-Sources.ensures.read
-    c.play_sources.ensures.part
-
-pub returns-in-Unread-clause-part : goal.returns-in-Unread-clause-part
-returns-in-Unread-clause-part g c = IfSome-always _ _ (λ named. WritesPart-none _ _)
+pub returns-in-Ok-clause-played : goal.returns-in-Ok-clause-played
+returns-in-Ok-clause-played g c =
+    let command = c.args.command.now in
+    let inputs = c.in-Ok.inputs in
+    let played = c.play_inputs in
+    let left = g.I.Source.left c.args.input.now in
+    let left_new = g.I.Source.left played.new.input in
+    let out = g.O.Sink.written c.args.out.now in
+    let out_new = g.O.Sink.written played.new.out in
+    inputs-play command inputs played.result (g.F.Files.contents c.args.files.now) (g.F.Files.contents played.new.files) left left_new out out_new
+    c.in-Ok.ensures.inputs
+    (subst (λ (contents : Option Named). PlaysAs (of_project command (trees_of (reading_of [] inputs.sources)) (vars_seen inputs.vars)) played.result
+    contents (g.F.Files.contents played.new.files) left left_new out out_new) c.in-Ok.ensures.same played.ensures.played)
