@@ -1,5 +1,5 @@
 -- What one turn and one answer of a walk come to.
-use Rattle.std.proofs.Common.{◌≡◌, ℕ, suc, List, [], ◌∷◌, ◌++◌, codes, append-nil, length, take, drop, map, All, false, true, ◌⊎◌, inl, inr, Option, Some, None, Result, Ok, Err, IfOk, ◌≤◌, refl, sym, ap, ◌∙◌, subst, arith, append_assoc, take-append-drop}
+use Rattle.std.proofs.Common.{◌≡◌, ℕ, suc, List, [], ◌∷◌, ◌++◌, codes, append-nil, length, take, map, All, false, true, ◌⊎◌, inl, inr, Option, Some, None, Result, Ok, Err, IfOk, ◌≤◌, refl, sym, ap, ◌∙◌, subst, arith, append_assoc, take-append-drop}
 use Rattle.std.specs.Io.KnownBytes.{prepend_known, append_known}
 use Rattle.yarn_tree.specs.Trees.{file_tree}
 use Rattle.yarn_walker.specs.declared.titles.Titles.{Titles}

@@ -3,7 +3,6 @@ use Rattle.std.specs.Prelude.{◌≡◌, ℕ, zero, suc, List, Option, Some}
 use Rattle.std.specs.Io.KnownBytes.{append_known, prepend_known}
 use Rattle.yarn_base.specs.Outside.{WritesPart}
 use Rattle.yarn_code.specs.Moments.{Outcome, Limit, stands}
-use Rattle.yarn_meaning.specs.Texts.{Table}
 use Rattle.yarn_walker.specs.States.{at}
 use Rattle.yarn_walker.specs.Walk.{run_of, files_of, WithTexts}
 use Rattle.yarn_walker.specs.declared.walk.Walk.{Walk}

@@ -1,5 +1,5 @@
 -- What an answer does at a group that is shown.
-use Rattle.std.proofs.Common.{◌≡◌, ℕ, zero, suc, ◌<◌, ◌≤◌, ◌+◌, ◌-◌, Bool, true, false, nat_eq, if◌then◌else◌, List, [], ◌∷◌, ◌++◌, length, take, drop, Option, Some, None, refl, sym, ap, subst, ◌∙◌, arith, append_assoc, get_or, Bor}
+use Rattle.std.proofs.Common.{◌≡◌, ℕ, zero, suc, ◌<◌, ◌≤◌, ◌-◌, Bool, true, false, nat_eq, if◌then◌else◌, List, [], ◌∷◌, ◌++◌, length, take, Option, Some, None, refl, sym, ap, subst, ◌∙◌, arith, append_assoc, get_or, Bor}
 use Rattle.std.proofs.Math.ListN.{length-drop, length-map}
 use Rattle.std.proofs.lemmas.List.Elements.{All-tail}
 use Rattle.yarn_blocks.specs.declared.tree.Stmt.{Stmt}

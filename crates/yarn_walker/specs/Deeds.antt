@@ -1,5 +1,5 @@
 -- What statements do, as the walk finds it.
-use Rattle.std.specs.Prelude.{◌≡◌, ℕ, List, [], ◌∷◌, Option, Some, None, Result, Ok, Err, All, ⊤}
+use Rattle.std.specs.Prelude.{◌≡◌, ℕ, List, [], Option, Some, None, Result, Ok, Err, All, ⊤}
 use Rattle.yarn_value.specs.declared.value.Value.{Value}
 use Rattle.yarn_expr.specs.declared.tree.Expr.{Expr}
 use Rattle.yarn_blocks.specs.declared.tree.LineText.{LineText}
@@ -12,7 +12,6 @@ use Rattle.yarn_meaning.specs.Does.{Done, Through, Jumps, Stops, Halted, done, s
 use Rattle.yarn_meaning.specs.Filled.{filled}
 use Rattle.yarn_meaning.specs.Texts.{Table, Tells, TellsAll, said_in, said_in_options}
 use Rattle.yarn_walker.specs.States.{at}
-use Rattle.yarn_walker.specs.Means.{Means}
 use Rattle.yarn_walker.specs.Offers.{all_shown, AreOf}
 use Rattle.yarn_walker.specs.declared.offer.Offer.{Offer}
 use Rattle.yarn_walker.specs.declared.halt.Halt.{Halt}

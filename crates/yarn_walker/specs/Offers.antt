@@ -1,10 +1,10 @@
 -- The options of a group as they are shown.
-use Rattle.std.specs.Prelude.{◌≡◌, ℕ, List, [], ◌∷◌, map, Result, Ok, Err, All, ⊤, Vec}
+use Rattle.std.specs.Prelude.{◌≡◌, ℕ, List, [], ◌∷◌, map, Result, Ok, Err, ⊤, Vec}
 use Rattle.std.specs.declared.alloc.Global.{Global}
 use Rattle.yarn_value.specs.declared.fault.OpFault.{OpFault}
 use Rattle.yarn_blocks.specs.declared.tree.LineText.{LineText}
 use Rattle.yarn_blocks.specs.declared.tree.OptionItem.{OptionItem}
-use Rattle.yarn_blocks.specs.Tree.{Options, NoOptions, AndOption, Offered}
+use Rattle.yarn_blocks.specs.Tree.{Options, NoOptions, AndOption}
 use Rattle.yarn_code.specs.declared.event.Choice.{Choice}
 use Rattle.yarn_code.specs.Moments.{Pairs, State}
 use Rattle.yarn_meaning.specs.Eval.{Faults}

@@ -1,19 +1,18 @@
 -- What is still to come of a run, from where its walk stands.
-use Rattle.std.specs.Prelude.{◌≡◌, ℕ, zero, suc, List, [], ◌∷◌, map, Bool, true, false, Option, Some, None, All, ⊤}
+use Rattle.std.specs.Prelude.{◌≡◌, ℕ, zero, suc, List, [], map, Bool, true, false, Option, Some, None, All, ⊤}
 use Rattle.std.specs.Borrow.{Bor}
 use Rattle.yarn_blocks.specs.declared.tree.Stmt.{Stmt}
 use Rattle.yarn_blocks.specs.declared.tree.OptionItem.{OptionItem}
-use Rattle.yarn_value.specs.declared.fault.RunFault.{RunFault}
 use Rattle.yarn_value.specs.declared.fault.RunFault.TheVariants as run_fault
 use Rattle.yarn_blocks.specs.Tree.{Stmts, Options}
 use Rattle.yarn_blocks.specs.View.{stmts_of, options_of}
 use Rattle.yarn_tree.specs.Trees.{FileTree, file_tree}
-use Rattle.yarn_code.specs.Answer.{Answered, answer_of}
+use Rattle.yarn_code.specs.Answer.{answer_of}
 use Rattle.yarn_code.specs.declared.event.Event.{Event}
 use Rattle.yarn_code.specs.declared.event.Event.TheVariants as event
 use Rattle.yarn_code.specs.declared.event.Choice.{Choice}
 use Rattle.yarn_code.specs.Moments.{Pairs, State, Behaviour, moment, stands, emit, finishes, Limit, Faults, Waits as IsWaiting}
-use Rattle.yarn_meaning.specs.Does.{Done, and_on, waits, group_line, does_all, does_option, any_open, chooses, less_one}
+use Rattle.yarn_meaning.specs.Does.{and_on, waits, group_line, does_all, does_option, any_open, chooses, less_one}
 use Rattle.yarn_meaning.specs.Filled.{filled}
 use Rattle.yarn_meaning.specs.First.{Placed, leaves, after, exits_of, in_body, in_node, from, faults_at}
 use Rattle.yarn_meaning.specs.Texts.{Table, Tells, TellsAll, said_in, said_in_options, said_in_files}

@@ -1,4 +1,4 @@
-use Rattle.std.proofs.Common.{◌≡◌, true, false, Some, List, [], refl, sym, ap, subst, ◌∙◌}
+use Rattle.std.proofs.Common.{◌≡◌, true, false, Some, [], refl, sym, ap, subst, ◌∙◌}
 use Rattle.yarn_blocks.specs.Tree.{stmts_then}
 use Rattle.yarn_blocks.specs.View.{stmts_of, options_of}
 use Rattle.yarn_meaning.specs.Does.{any_open, chooses}

@@ -1,4 +1,4 @@
-use Rattle.std.proofs.Common.{◌≡◌, ℕ, List, [], sym, ap, ◌∙◌}
+use Rattle.std.proofs.Common.{◌≡◌, [], sym, ap, ◌∙◌}
 use Rattle.yarn_blocks.specs.Tree.{Stmts}
 use Rattle.yarn_blocks.specs.View.{stmts_of}
 use Rattle.yarn_code.specs.declared.event.Event.TheVariants as event

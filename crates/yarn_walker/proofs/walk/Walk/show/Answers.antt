@@ -1,4 +1,4 @@
-use Rattle.std.proofs.Common.{◌≡◌, ℕ, List, Bool, refl, sym, ap, subst, ◌∙◌}
+use Rattle.std.proofs.Common.{◌≡◌, refl, sym, ap, subst, ◌∙◌}
 use Rattle.yarn_blocks.specs.View.{options_of}
 use Rattle.yarn_value.specs.declared.fault.RunFault.TheVariants.{NoOpenOption}
 use Rattle.yarn_code.specs.declared.event.Event.TheVariants as event

@@ -1,6 +1,5 @@
-use Rattle.std.proofs.Common.{◌≡◌, List, refl, sym, ap, subst, ◌∙◌}
+use Rattle.std.proofs.Common.{List, refl, sym, ap, subst, ◌∙◌}
 use Rattle.std.specs.List.{All}
-use Rattle.yarn_blocks.specs.View.{options_of}
 use Rattle.yarn_code.specs.declared.event.Event.TheVariants as event
 use Rattle.yarn_meaning.specs.Filled.{filled}
 use Rattle.yarn_meaning.specs.Texts.{Tells}
