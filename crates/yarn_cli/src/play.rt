@@ -22,6 +22,7 @@ use crate::typing::{refused_for_kinds, typing_of};
 use crate::vars::{Inputs, VarsFile, read_inputs, store_of};
 use crate::{Command, CommandKind, Status};
 use std::alloc::{AllocError, Global};
+use std::mem;
 use yarn_base::{Files, IoFault, Sink, Source, Words};
 use yarn_infer::Typing;
 use yarn_player::{PlayEnd, PlayFault, Played, play};
@@ -123,7 +124,12 @@ fn play_inputs<F: Files, I: Source, O: Sink>(
 {
     let Inputs { sources, vars } = inputs;
     match project_of(alloc, sources) {
-        Ok(project) => play_project(alloc, command, &project, vars, files, input, out),
+        Ok(project) => {
+            let ended = play_project(alloc, command, &project, vars, files, input, out);
+            // The process ends with the run: to let the trees go piece by piece would only take time.
+            mem::forget(project);
+            ended
+        }
         Err(ProjectFault::Refused(refusal)) => refused_at(alloc, command.names(), refusal),
         Err(ProjectFault::Memory) => Ended::out_of_memory(alloc),
     }

@@ -10,7 +10,7 @@ ghost use Rattle.yarn_walker.specs.Walk.{is_asking, IsSound, StaysSound};
 use crate::ends::{PlayEnd, PlayFault, Played};
 use crate::page::Page;
 use std::alloc::Global;
-use yarn_base::{Failed, IoFault, Memory, Sink, Source};
+use yarn_base::{Failed, IoFault, List, Memory, Sink, Source};
 use yarn_code::take_answer;
 use yarn_walker::{Turn, Walk};
 
@@ -141,8 +141,28 @@ fn answer<'p>(
     show(alloc, walk, page)
 }
 
-// Gives one event of a walk that doesn't ask.
+// Gives one event of a walk that doesn't ask. Most are lines without substitutions, which take a short way.
 fn show<'p>(
+    alloc: Global,
+    walk: &mut Walk<'p>,
+    page: &mut Page,
+) -> Result<Option<PlayEnd<'p>>, Memory>
+    requires sound { IsSound walk.old }
+    requires goes_on { is_asking walk.old.seat ≡ false }
+    ensures shows { IfOk result (λ end. Shows NoAnswer walk.old page.old.bytes.items end walk.new page.new.bytes.items) }
+    ensures sound { OnOk result (StaysSound walk.old walk.new) }
+{
+    match walk.next_plain() {
+        Some(text) => {
+            page.line(alloc, &text.text, &List::new(alloc))?;
+            Ok(None)
+        }
+        None => show_turn(alloc, walk, page),
+    }
+}
+
+// The same, whatever the event is.
+fn show_turn<'p>(
     alloc: Global,
     walk: &mut Walk<'p>,
     page: &mut Page,

@@ -73,6 +73,11 @@ pub line_told : (table : Table) (text : LineText) (b : Stmts) →
     TellsAll table (said_in (Cons (Leaf (simple.Line text)) b)) → Tells table text × TellsAll table (said_in b)
 line_told table text b told = (All-head (Tells table) text (said_in b) told, All-tail (Tells table) text (said_in b) told)
 
+-- a line without substitutions is said
+pub plain_does : (text : LineText) (b : Stmts) (store : Pairs) → text.holes ≡ [] → (answers : List ℕ) →
+    does_all [] (Cons (Leaf (simple.Line text)) b) (at store answers) ≡ showing (event.Line text.id []) (at store answers) (does_all [] b (at store answers))
+plain_does text b store plain answers = rw plain refl
+
 -- ---- a group
 
 pub group_does : (os : Options) (b : Stmts) (store : Pairs) (offers : Vec Offer Global) → Offers os store (Ok offers) → (answers : List ℕ) →

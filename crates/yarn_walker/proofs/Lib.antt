@@ -7,3 +7,4 @@ pub mod DeedLemmas
 pub mod AnswerLemmas
 pub mod FuelLemmas
 pub mod TurnLemmas
+pub mod PlainLemmas

@@ -1,12 +1,13 @@
 //! The statements that are still to be done.
-ghost use Rattle.std.specs.Prelude.{◌≡◌, IfSome, None, OnOk};
-ghost use Rattle.yarn_blocks.specs.Tree.{Nil, Cons, stmts_then};
+ghost use Rattle.std.specs.Prelude.{◌≡◌, [], IfSome, None, OnOk};
+ghost use Rattle.yarn_blocks.specs.declared.entry.Simple.TheVariants as simple;
+ghost use Rattle.yarn_blocks.specs.Tree.{Nil, Cons, Leaf, stmts_then};
 ghost use Rattle.yarn_walker.specs.Frames.{rest_of};
 ghost use Rattle.yarn_blocks.specs.View.{stmt_of, stmts_of};
 
 use std::alloc::Global;
 use yarn_base::Memory;
-use yarn_tree::Stmt;
+use yarn_tree::{LineText, Stmt};
 
 /// The statements that are still to be done, those of the innermost body first. Contracts see them as one list
 /// (`rest_of`).
@@ -49,6 +50,21 @@ impl<'p> Frames<'p> {
                 return Some(first);
             }
             self.body = self.outer.pop()?;
+        }
+    }
+
+    /// Takes the first statement of the innermost body where it is a line without substitutions.
+    pub(crate) fn take_plain(&mut self) -> Option<&'p LineText>
+        ensures some { IfSome result (λ text. rest_of self.old ≡ Cons (Leaf (simple.Line text.now)) (rest_of self.new)) }
+        ensures plain { IfSome result (λ text. text.now.holes ≡ []) }
+        ensures none { result ≡ None → self.new ≡ self.old }
+    {
+        match self.body.split_first() {
+            Some((Stmt::Line(text), rest)) if text.holes.is_empty() => {
+                self.body = rest;
+                Some(text)
+            }
+            _ => None,
         }
     }
 }

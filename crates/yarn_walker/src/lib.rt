@@ -14,7 +14,7 @@ mod variables;
 mod walk;
 
 pub use ends::FaultAt;
-pub use offer::{Offer, any_open};
+pub use offer::Offer;
 pub use titles::{NodeAt, Titles};
 pub use variables::{first_other, first_store};
 pub use walk::{Seat, Turn, Walk};

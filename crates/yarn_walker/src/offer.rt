@@ -25,7 +25,7 @@ pub struct Offer<'p> {
 }
 
 /// Whether one of them can be chosen.
-pub fn any_open(offers: &[Offer]) -> bool
+pub(crate) fn any_open(offers: &[Offer]) -> bool
     ensures { result ≡ any_open_of (all_shown offers.now) }
 {
     offers.iter().any(|offer| offer.available)

@@ -1,7 +1,7 @@
 //! What the store holds of variables and of counts.
 ghost use Rattle.std.specs.Prelude.{◌≡◌, IfOk, OnOk, IsTrue};
-ghost use Rattle.yarn_store.specs.Pairs.{put, IsShort};
-ghost use Rattle.yarn_meaning.specs.Eval.{count_name as count_name_of, visits as visits_of};
+ghost use Rattle.yarn_store.specs.Pairs.{put, value_under, IsShort};
+ghost use Rattle.yarn_meaning.specs.Eval.{count_name as count_name_of, number_in, visits as visits_of};
 
 use std::alloc::Global;
 use yarn_base::{Memory, Text};
@@ -26,10 +26,17 @@ pub(crate) fn visits(alloc: Global, store: &Store, title: &Text) -> Result<i64, 
     ensures { IfOk result (λ n. n ≡ visits_of store.now title.now) }
 {
     let name = count_name(alloc, title)?;
-    Ok(match store.get(&name) {
+    Ok(count_under(store, &name))
+}
+
+/// The number that is stored under a name; 0 where none is.
+pub(crate) fn count_under(store: &Store, name: &Text) -> i64
+    ensures { result ≡ number_in (value_under store.now name.now) }
+{
+    match store.get(name) {
         Some(Value::Number(count)) => *count,
         _ => 0,
-    })
+    }
 }
 
 /// Gives a variable that is there this value. `Memory` where it isn't there, or for a text of more than 65,536 bytes:

@@ -1,5 +1,5 @@
 //! The walk: one event after the other.
-ghost use Rattle.std.specs.Prelude.{◌≡◌, Some, true, false, map, IfOk, OnOk};
+ghost use Rattle.std.specs.Prelude.{◌≡◌, [], Some, None, true, false, map, IfOk, IfSome, OnOk};
 ghost use Rattle.yarn_tree.specs.Trees.{file_tree};
 ghost use Rattle.yarn_blocks.specs.View.{options_of};
 ghost use Rattle.yarn_meaning.specs.First.{find};
@@ -15,7 +15,7 @@ use crate::ends::FaultAt;
 use crate::frames::Frames;
 use crate::halt::Halt;
 use crate::offer::{Offer, any_open};
-use crate::stored::{count_name, store_value, visits};
+use crate::stored::{count_name, count_under, store_value};
 use crate::titles::{NodeAt, Titles};
 use std::alloc::Global;
 use std::mem;
@@ -160,6 +160,21 @@ impl<'p> Walk<'p> {
         }
     }
 
+    /// Gives a line without substitutions, where one is the next event and its statement is at hand. Where none is
+    /// given, the walk stays as it is, and `next` gives the event.
+    pub fn next_plain(&mut self) -> Option<&'p LineText>
+        requires { IsSound self.old }
+        ensures meaning { IfSome result (λ text. Turns self.old (Turn.Line text []) self.new) }
+        ensures texts { IfSome result (λ text. TellsTurn self.old (Turn.Line text []) self.new) }
+        ensures sound { StaysSound self.old self.new }
+        ensures none { result ≡ None → self.new ≡ self.old }
+    {
+        match &mut self.seat {
+            Seat::Within(_, rest) => rest.take_plain(),
+            _ => None,
+        }
+    }
+
     // Does the statements of a node up to the next event.
     fn statements(
         &mut self,
@@ -255,11 +270,10 @@ impl<'p> Walk<'p> {
         ensures sound { OnOk result (StaysSound self.old self.new) }
     {
         let title = &node.node.title;
-        let before = visits(alloc, &self.store, title)?;
-        let Some(count) = before.checked_add(1) else {
+        let name = count_name(alloc, title)?;
+        let Some(count) = count_under(&self.store, &name).checked_add(1) else {
             return Ok(Turn::Faults(node.fault(line, RunFault::Overflow)));
         };
-        let name = count_name(alloc, title)?;
         store_value(&mut self.store, &name, Value::Number(count))?;
         self.seat = next;
         Ok(Turn::NodeEnd(title))
