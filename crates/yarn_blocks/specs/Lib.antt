@@ -1,3 +1,4 @@
+pub mod LineIds
 pub mod Entries
 pub mod Tree
 pub mod Block

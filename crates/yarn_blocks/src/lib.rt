@@ -6,13 +6,16 @@ mod entry;
 mod frame;
 mod frames;
 mod held;
+mod id_form;
 mod laws;
 mod layout_laws;
 mod level;
 mod levels;
+mod line_id;
 mod mark;
 mod outline;
 mod reading;
+mod shared_text;
 #[cfg(test)]
 mod tests;
 mod tree;
@@ -25,6 +28,8 @@ pub use laws::{
     marks_have_entries, marks_tell, one_block, read_are_blocks,
 };
 pub use layout_laws::{laid_keeps_lines, laid_stands, lines_tell_nothing, one_tree};
+pub use line_id::LineId;
 pub use mark::{Mark, Shape};
+pub use shared_text::SharedText;
 pub use tree::{Clause, ElseClause, Head, LineText, OptionItem, Stmt};
 pub use verdict::{Excess, Verdict, judge};

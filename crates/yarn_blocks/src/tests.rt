@@ -2,8 +2,8 @@ ghost use Rattle.std.specs.Prelude.{◌≡◌, IfOk};
 ghost use Rattle.yarn_blocks.specs.Entries.{HaveLines, line_in};
 
 use crate::{
-    Entry, Excess, LineText, Mark, OptionItem, Shape, Simple, Stmt, Verdict, What, build, judge,
-    marks,
+    Entry, Excess, LineId, LineText, Mark, OptionItem, Shape, SharedText, Simple, Stmt, Verdict,
+    What, build, judge, marks,
 };
 use std::alloc::Global;
 use std::process::Abort;
@@ -157,7 +157,7 @@ fn text(alloc: Global, line: u32, words: &str) -> Result<LineText, Memory>
 {
     Ok(LineText {
         line,
-        id: Text::from_str(alloc, "")?,
+        id: LineId::none(),
         text: Text::from_str(alloc, words)?,
         holes: List::new(alloc),
         tags: List::new(alloc),
@@ -243,5 +243,24 @@ fn options_are_grouped(rt: HostRuntime) -> Result<(), Fail> {
     assert!(rt; is_line(body(&rt, kinds, 0), 0, "White."), "in Milk");
     assert!(rt; is_line(body(&rt, kinds, 1), 0, "Black."), "in Plain");
     assert!(rt; is_line(body(&rt, kinds, 2), 0, "Cold."), "in Water");
+    Ok(())
+}
+
+#[test]
+fn ids_are_written_out(rt: HostRuntime) -> Result<(), Fail> {
+    let alloc = rt.alloc();
+    let title = SharedText::new(alloc, Text::from_str(alloc, "Start")?)?;
+    let rows = [
+        (LineId::none(), ""),
+        (
+            LineId::own(alloc, Text::from_str(alloc, "line:a")?)?,
+            "line:a",
+        ),
+        (LineId::placed(title.share()?, 12), "line:Start-12"),
+        (LineId::placed(title, 0), "line:Start-0"),
+    ];
+    for (id, written) in &rows {
+        assert!(rt; id.to_text(alloc)?.as_str() == *written, "{written:?}");
+    }
     Ok(())
 }

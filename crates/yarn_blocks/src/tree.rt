@@ -1,3 +1,4 @@
+use crate::line_id::LineId;
 use yarn_base::{List, Text};
 use yarn_expr::{BinaryOp, Expr};
 use yarn_value::{Kind, Value};
@@ -67,7 +68,7 @@ pub struct LineText {
     /// Its line, counted from 1.
     pub line: u32,
     /// The id under which string tables know it; empty in a file that is read alone.
-    pub id: Text,
+    pub id: LineId,
     /// The text as string tables have it, with `{k}` for the hole at place k, from 0.
     pub text: Text,
     /// The values that are put in.

@@ -19,7 +19,8 @@ use Rattle.yarn_blocks.specs.declared.mark.Mark.{Mark}
 use Rattle.yarn_nodes.specs.Places.{or_later}
 use Rattle.yarn_nodes.specs.Entries.{ItemAt, command_at, text_at, said_by}
 use Rattle.yarn_nodes.specs.Finds.{items_from}
-use Rattle.yarn_nodes.specs.Ids.{and_said, said_in, line_id, id_among}
+use Rattle.yarn_blocks.specs.LineIds.{line_id}
+use Rattle.yarn_nodes.specs.Ids.{and_said, said_in, id_among}
 use Rattle.yarn_nodes.specs.Nodes.{no_draft, titled_of, header_taken, and_what, counted, next_id, draft_behind, and_node, nodes_from, and_titled, titles_from}
 use Rattle.yarn_nodes.specs.Reader.{file_of}
 use Rattle.yarn_nodes.specs.Structure.{header_behind, stand_behind, marks_behind, end_fault, misplaced_at, first_misplaced}

@@ -1,9 +1,9 @@
 -- The ids of lines that are said and of options (docs/language.md, Ids).
-use Rattle.std.specs.Prelude.{◌≡◌, ℕ, ◌+◌, List, [], ◌∷◌, ◌++◌, if◌then◌else◌, codes, Option, Some, None}
-use Rattle.std.specs.Fmt.{decimal}
+use Rattle.std.specs.Prelude.{◌≡◌, ℕ, ◌+◌, List, [], ◌∷◌, ◌++◌, if◌then◌else◌, Option, Some, None}
 use Rattle.yarn_items.specs.Text.{is_id}
 use Rattle.yarn_blocks.specs.declared.entry.Entry.{Entry}
 use Rattle.yarn_blocks.specs.declared.tree.LineText.{LineText}
+use Rattle.yarn_blocks.specs.LineIds.{line_id}
 use Rattle.yarn_nodes.specs.Entries.{said_by}
 
 -- one more, where it has an id
@@ -15,10 +15,6 @@ and_said None n = n
 abbrev pub said_in : List Entry → ℕ
 said_in [] = 0
 said_in (entry ∷ entries) = and_said (said_by entry.what) (said_in entries)
-
--- the id of a line that has none of its own: its node's title, and its place from 0 among what has an id in the node
-abbrev pub line_id : List ℕ → ℕ → List ℕ
-line_id title before = codes "line:" ++ (title ++ (codes "-" ++ decimal before))
 
 -- the first hashtag that is an id, and else the other id
 abbrev pub id_among : List (List ℕ) → List ℕ → List ℕ

@@ -10,7 +10,8 @@ use Rattle.yarn_nodes.specs.declared.draft.Draft.{Draft}
 use Rattle.yarn_nodes.specs.declared.node.Titled.{Titled}
 use Rattle.yarn_nodes.specs.declared.node.NodeLines.{NodeLines}
 use Rattle.yarn_nodes.specs.Entries.{ItemAt, what_at}
-use Rattle.yarn_nodes.specs.Ids.{line_id, id_among}
+use Rattle.yarn_blocks.specs.LineIds.{line_id}
+use Rattle.yarn_nodes.specs.Ids.{id_among}
 use Rattle.yarn_nodes.specs.Titles.{is_title}
 
 -- the hashtags of the file

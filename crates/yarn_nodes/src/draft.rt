@@ -13,7 +13,7 @@ use crate::ids::id_for;
 use crate::node::Titled;
 use std::alloc::Global;
 use yarn_base::{List, Memory, Text, is_name};
-use yarn_blocks::{Entry, LineText, Simple, Verdict, What, judge, marks};
+use yarn_blocks::{Entry, LineId, LineText, SharedText, Simple, Verdict, What, judge, marks};
 use yarn_commands::Command;
 use yarn_expr::Expr;
 use yarn_items::{Header, Said};
@@ -50,11 +50,16 @@ impl Draft {
         is_title_header(header) && (self.title.is_some() || !is_name(&header.value))
     }
 
-    pub(crate) fn take_header(&mut self, line: u32, header: Header) -> Result<(), Memory>
+    pub(crate) fn take_header(
+        &mut self,
+        alloc: Global,
+        line: u32,
+        header: Header,
+    ) -> Result<(), Memory>
         ensures { OnOk result (self.new ≡ header_taken self.old line header) }
     {
         if is_title_header(&header) && self.title.is_none() {
-            let title = header.value.copy()?;
+            let title = SharedText::new(alloc, header.value.copy()?)?;
             self.title = Some(Titled { line, title });
         }
         self.headers.push(header).map_err(|_| Memory)
@@ -113,10 +118,10 @@ impl Draft {
     }
 
     /// Takes a command for the game. It has no id.
-    pub(crate) fn take_game(&mut self, alloc: Global, spot: Spot, said: Said) -> Result<(), Memory>
+    pub(crate) fn take_game(&mut self, spot: Spot, said: Said) -> Result<(), Memory>
         ensures { OnOk result (self.new ≡ other_taken self.old (item_at spot (item.Game said))) }
     {
-        let text = text_at(spot.line, Text::from_str(alloc, "")?, said);
+        let text = text_at(spot.line, LineId::none(), said);
         self.add(spot, What::Statement(Simple::Command(text)))
     }
 
@@ -140,11 +145,7 @@ impl Draft {
         ensures counts { OnOk result (self.new ≡ counted self.old) }
     {
         let before = self.said;
-        let title = self
-            .title
-            .as_ref()
-            .map_or("", |titled| titled.title.as_str());
-        let id = id_for(alloc, ids, &said.tags, title, before)?;
+        let id = id_for(alloc, ids, &said.tags, &self.title, before)?;
         self.said = before.checked_add(1).ok_or(Memory)?;
         Ok(text_at(line, id, said))
     }
@@ -173,7 +174,7 @@ pub(crate) fn titled_or_empty(alloc: Global, title: Option<Titled>) -> Result<Ti
         Some(titled) => Ok(titled),
         None => Ok(Titled {
             line: 0,
-            title: Text::from_str(alloc, "")?,
+            title: SharedText::new(alloc, Text::from_str(alloc, "")?)?,
         }),
     }
 }

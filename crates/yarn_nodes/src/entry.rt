@@ -3,7 +3,7 @@ ghost use Rattle.std.specs.Prelude.{◌≡◌};
 ghost use Rattle.yarn_nodes.specs.Entries.{text_at as text_of, command_at as command_of};
 
 use yarn_base::{List, Text};
-use yarn_blocks::{Head, LineText, Simple, What};
+use yarn_blocks::{Head, LineId, LineText, Simple, What};
 use yarn_commands::Command;
 use yarn_items::Said;
 
@@ -16,7 +16,7 @@ pub(crate) struct Spot {
 }
 
 /// What is said on a line under that id.
-pub(crate) fn text_at(line: u32, id: Text, said: Said) -> LineText
+pub(crate) fn text_at(line: u32, id: LineId, said: Said) -> LineText
     ensures { result ≡ text_of line id said }
 {
     let Said { text, holes, tags } = said;

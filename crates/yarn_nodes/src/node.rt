@@ -3,7 +3,7 @@ ghost use Rattle.std.specs.Prelude.{◌≡◌};
 ghost use Rattle.yarn_nodes.specs.Noted.{noted_as};
 
 use yarn_base::{List, Text};
-use yarn_blocks::Entry;
+use yarn_blocks::{Entry, SharedText};
 use yarn_items::Header;
 
 /// A file of the project (docs/language.md, Nodes).
@@ -33,7 +33,7 @@ pub struct NodeLines {
 #[derive(Debug, Drop)]
 pub struct Titled {
     pub line: u32,
-    pub title: Text,
+    pub title: SharedText,
 }
 
 /// What was read of a file.

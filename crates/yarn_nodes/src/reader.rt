@@ -69,7 +69,7 @@ impl Reader {
     {
         match item {
             Item::FileTag(tag) => self.take_tag(spot.line, tag),
-            Item::Header(header) => self.take_header(spot.line, header),
+            Item::Header(header) => self.take_header(alloc, spot.line, header),
             Item::BodyBegins => {
                 self.begin_body(alloc, spot.line);
                 Ok(())
@@ -81,7 +81,7 @@ impl Reader {
                     .take_offer(alloc, self.ids, spot, said, condition)
             }
             Item::Command(command, tags) => self.draft.take_command(spot, command, tags),
-            Item::Game(said) => self.draft.take_game(alloc, spot, said),
+            Item::Game(said) => self.draft.take_game(spot, said),
         }
     }
 
@@ -92,13 +92,13 @@ impl Reader {
         self.tags.push(tag).map_err(|_| Memory)
     }
 
-    fn take_header(&mut self, line: u32, header: Header) -> Result<(), Memory>
+    fn take_header(&mut self, alloc: Global, line: u32, header: Header) -> Result<(), Memory>
         ensures { OnOk result (self.new ≡ header_put self.old line header) }
     {
         let bad = self.draft.is_mistitled_by(&header);
         self.notes.note_mistitled(line, bad);
         self.stand = self.stand.behind_header();
-        self.draft.take_header(line, header)
+        self.draft.take_header(alloc, line, header)
     }
 
     fn begin_body(&mut self, alloc: Global, line: u32)
@@ -130,7 +130,7 @@ impl Reader {
         } = mem::replace(&mut self.draft, Draft::new(alloc));
         let titled = titled_or_empty(alloc, title)?;
         let node = NodeLines {
-            title: titled.title.copy()?,
+            title: titled.title.to_text()?,
             headers,
             line,
             end_line,

@@ -13,7 +13,8 @@ use Rattle.yarn_nodes.specs.declared.node.NodeLines.{NodeLines}
 use Rattle.yarn_nodes.specs.declared.node.Titled.{Titled}
 use Rattle.yarn_nodes.specs.declared.node.Note.TheVariants as note
 use Rattle.yarn_nodes.specs.Entries.{said_by}
-use Rattle.yarn_nodes.specs.Ids.{and_said, line_id, id_among}
+use Rattle.yarn_blocks.specs.LineIds.{line_id}
+use Rattle.yarn_nodes.specs.Ids.{and_said, id_among}
 use Rattle.yarn_nodes.specs.Places.{or_later}
 use Rattle.yarn_nodes.proofs.CountedLemmas.{HasCount, Counted, AllCounted, AreTitlesOf, file-counted, file-titles}
 use Rattle.yarn_tree.specs.declared.stages.SplitFile.{SplitFile}

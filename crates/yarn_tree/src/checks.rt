@@ -1,10 +1,10 @@
 //! The refusals that are found in the lines of nodes: nodes, titles and ids.
-ghost use Rattle.std.specs.Prelude.{◌≡◌, [], slice_get, IfOk, OnOk};
+ghost use Rattle.std.specs.Prelude.{◌≡◌, ◌++◌, [], slice_get, IfOk, OnOk};
 ghost use Rattle.std.specs.List.{list_any};
 ghost use Rattle.yarn_items.specs.Text.{is_id};
 ghost use Rattle.yarn_nodes.specs.Entries.{said_by};
-ghost use Rattle.yarn_tree.specs.Checks.{and_id, noted_in, extra_node, begun_at, titles_in, titles_seen, ids_in, ids_within, ids_seen, has_own, own_in, is_own, own_within, own_of};
-ghost use Rattle.yarn_tree.specs.Names.{sees_all, sight_of};
+ghost use Rattle.yarn_tree.specs.Checks.{and_id, noted_in, extra_node, begun_at, titles_in, titles_seen, ids_in, ids_within, ids_of as all_ids, ids_seen, has_own, own_in, is_own, own_within, own_of};
+ghost use Rattle.yarn_tree.specs.Names.{no_sight, sees_all, sight_of};
 ghost use Rattle.yarn_tree.specs.Places.{first_place};
 
 use crate::names::Seen;
@@ -161,45 +161,80 @@ fn is_id_tag(tag: &str) -> bool
     tag.as_bytes().starts_with(b"line:")
 }
 
-/// The place of the first id that an earlier line has.
+/// The place of the first id that an earlier line has. The ids are written out for that alone.
 pub(crate) fn second_id(alloc: Global, reads: &[FileRead]) -> Result<Option<Place>, Memory>
     ensures { IfOk result (λ again. again ≡ (ids_seen reads.now).again) }
 {
+    let ids = ids_of(alloc, reads)?;
+    first_again(alloc, ids.as_slice())
+}
+
+// The place of the first of these that comes again.
+fn first_again(alloc: Global, ids: &[(Text, Place)]) -> Result<Option<Place>, Memory>
+    ensures { IfOk result (λ again. again ≡ (sees_all no_sight ids.now).again) }
+{
     let mut seen = Seen::new(alloc);
-    for read in reads {
-        see_ids_within(&mut seen, read.number, read.file.nodes.as_slice())?;
+    for id in ids {
+        seen.see(id.0.as_str(), id.1)?;
     }
     Ok(seen.again)
 }
 
-fn see_ids_within<'a>(seen: &mut Seen<'a>, file: u32, nodes: &'a [NodeLines]) -> Result<(), Memory>
-    ensures { OnOk result (sight_of seen.new ≡ sees_all (sight_of seen.old) (ids_within file nodes.now)) }
+// The ids of all lines, each with its place.
+fn ids_of(alloc: Global, reads: &[FileRead]) -> Result<Vec<(Text, Place)>, Memory>
+    ensures { IfOk result (λ ids. ids.items ≡ all_ids reads.now) }
+{
+    let mut ids = Vec::new(alloc);
+    for read in reads {
+        push_ids_within(alloc, &mut ids, read.number, read.file.nodes.as_slice())?;
+    }
+    Ok(ids)
+}
+
+fn push_ids_within(
+    alloc: Global,
+    ids: &mut Vec<(Text, Place)>,
+    file: u32,
+    nodes: &[NodeLines],
+) -> Result<(), Memory>
+    ensures { OnOk result (ids.new.items ≡ ids.old.items ++ ids_within file nodes.now) }
 {
     for node in nodes {
-        see_ids_in(seen, file, node.body.as_slice())?;
+        push_ids_in(alloc, ids, file, node.body.as_slice())?;
     }
     Ok(())
 }
 
-fn see_ids_in<'a>(seen: &mut Seen<'a>, file: u32, body: &'a [Entry]) -> Result<(), Memory>
-    ensures { OnOk result (sight_of seen.new ≡ sees_all (sight_of seen.old) (ids_in file body.now)) }
+fn push_ids_in(
+    alloc: Global,
+    ids: &mut Vec<(Text, Place)>,
+    file: u32,
+    body: &[Entry],
+) -> Result<(), Memory>
+    ensures { OnOk result (ids.new.items ≡ ids.old.items ++ ids_in file body.now) }
 {
     for entry in body {
         let place = Place {
             file,
             line: entry.line,
         };
-        see_id(seen, place, &entry.what)?;
+        push_id(alloc, ids, place, &entry.what)?;
     }
     Ok(())
 }
 
-fn see_id<'a>(seen: &mut Seen<'a>, place: Place, what: &'a What) -> Result<(), Memory>
-    ensures { OnOk result (sight_of seen.new ≡ sees_all (sight_of seen.old) (and_id (said_by what.now) place [])) }
+fn push_id(
+    alloc: Global,
+    ids: &mut Vec<(Text, Place)>,
+    place: Place,
+    what: &What,
+) -> Result<(), Memory>
+    ensures { OnOk result (ids.new.items ≡ ids.old.items ++ and_id (said_by what.now) place []) }
 {
     match what {
-        What::Statement(Simple::Line(text)) => seen.see(text.id.as_str(), place),
-        What::Offer(text, _) => seen.see(text.id.as_str(), place),
-        _ => Ok(()),
+        What::Statement(Simple::Line(text)) => ids.push((text.id.to_text(alloc)?, place))?,
+        What::Offer(text, _) => ids.push((text.id.to_text(alloc)?, place))?,
+        _ => {}
     }
+    Ok(())
 }
