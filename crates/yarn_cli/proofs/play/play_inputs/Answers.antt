@@ -8,8 +8,8 @@ use Rattle.yarn_cli.specs.Playing.{vars_seen}
 use Rattle.yarn_cli.proofs.PlayLemmas.{reads-tell, project-ends, ends-play}
 use Rattle.yarn_cli.proofs.play.play_inputs.Goals as goal
 
-pub play_project-requires : goal.play_project-requires
-play_project-requires g c = reads-tell c.args.inputs.sources (map file_tree c.in-Ok.project.files) c.in-Ok.ensures
+pub play_project-ended-requires : goal.play_project-ended-requires
+play_project-ended-requires g c = reads-tell c.args.inputs.sources (map file_tree c.in-Ok.project.files) c.in-Ok.ensures
 
 pub returns-in-Err-Refused-clause-played : goal.returns-in-Err-Refused-clause-played
 returns-in-Err-Refused-clause-played g c =
