@@ -1,5 +1,5 @@
 -- The items of lines, and the lines of bodies that they are (docs/language.md, Body lines).
-use Rattle.std.specs.Prelude.{◌≡◌, ℕ, ◌+◌, List, [], ◌∷◌, Bool, true, false, if◌then◌else◌, Option, Some, None, ⊤}
+use Rattle.std.specs.Prelude.{◌≡◌, ℕ, List, [], ◌∷◌, Option, Some, None, ⊤}
 use Rattle.yarn_commands.specs.declared.command.Command.{Command}
 use Rattle.yarn_commands.specs.declared.command.Command.TheVariants as command
 use Rattle.yarn_items.specs.declared.item.Said.{Said}
@@ -10,7 +10,6 @@ use Rattle.yarn_blocks.specs.declared.tree.LineText.{LineText}
 use Rattle.yarn_blocks.specs.declared.entry.Entry.{Entry}
 use Rattle.yarn_blocks.specs.declared.entry.What.{What}
 use Rattle.yarn_blocks.specs.declared.entry.What.TheVariants as what
-use Rattle.yarn_blocks.specs.declared.entry.Simple.{Simple}
 use Rattle.yarn_blocks.specs.declared.entry.Simple.TheVariants as simple
 
 -- an item, the number of its line, and its indent

@@ -6,7 +6,7 @@ use Rattle.yarn_lines.specs.declared.line.RawLine.{RawLine}
 use Rattle.yarn_lines.specs.Lines.{pieces_in, lines_of}
 use Rattle.yarn_expr.specs.declared.token.Token.{Token}
 use Rattle.yarn_items.specs.declared.item.Mode.{Mode}
-use Rattle.yarn_items.specs.declared.item.Mode.TheVariants.{InHeaders, InBody}
+use Rattle.yarn_items.specs.declared.item.Mode.TheVariants.{InHeaders}
 use Rattle.yarn_items.specs.declared.item.Header.{Header}
 use Rattle.yarn_items.specs.declared.item.Item.{Item}
 use Rattle.yarn_items.specs.declared.item.Item.TheVariants as item

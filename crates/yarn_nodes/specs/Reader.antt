@@ -1,12 +1,10 @@
 -- What the lines of a file make, and what those that are left make of what was read (docs/language.md, Nodes).
-use Rattle.std.specs.Prelude.{ℕ, List, [], ◌∷◌, ◌++◌, Bool, false, if◌then◌else◌, Option, Some, None, is_some}
-use Rattle.yarn_lines.specs.declared.line.RawLine.{RawLine}
+use Rattle.std.specs.Prelude.{ℕ, List, [], Bool, false}
 use Rattle.yarn_lines.specs.declared.line.Lines.{Lines}
 use Rattle.yarn_items.specs.declared.item.Mode.TheVariants.{InHeaders}
 use Rattle.yarn_nodes.specs.declared.node.FileRead.{FileRead}
 use Rattle.yarn_nodes.specs.declared.node.Notes.{Notes}
 use Rattle.yarn_nodes.specs.declared.structure.Stand.TheVariants.{Front}
-use Rattle.yarn_nodes.specs.Entries.{ItemAt}
 use Rattle.yarn_nodes.specs.Finds.{items_from, first_told, is_nothing, has_many_holes, has_fraction, has_large}
 use Rattle.yarn_nodes.specs.Structure.{first_misplaced, first_shown, deep_in, crowd_in}
 use Rattle.yarn_nodes.specs.Titles.{first_mistitled}

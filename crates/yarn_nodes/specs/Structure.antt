@@ -1,6 +1,6 @@
 -- The first item that stands where it may not, and where a body is too deep or a group too large
 -- (docs/language.md, Nodes, Structure of a body and Refusals of a project).
-use Rattle.std.specs.Prelude.{ℕ, List, [], ◌∷◌, ◌++◌, Bool, true, false, not, if◌then◌else◌, Option, Some, None}
+use Rattle.std.specs.Prelude.{ℕ, List, [], ◌∷◌, ◌++◌, Option, Some, None}
 use Rattle.yarn_items.specs.declared.item.Mode.{Mode}
 use Rattle.yarn_items.specs.declared.item.Mode.TheVariants.{InHeaders, InBody}
 use Rattle.yarn_items.specs.declared.item.Item.{Item}

@@ -1,12 +1,12 @@
 -- The trees that are built of lines are those that the lines stand for.
-use Rattle.std.proofs.Common.{◌≡◌, List, [], ◌∷◌, map, Some, refl, sym, ap, ◌∙◌}
+use Rattle.std.proofs.Common.{◌≡◌, List, [], ◌∷◌, map, refl}
 use Rattle.yarn_blocks.proofs.Viable.{block-read}
 use Rattle.yarn_nodes.specs.declared.node.FileLines.{FileLines}
 use Rattle.yarn_nodes.specs.declared.node.NodeLines.{NodeLines}
 use Rattle.yarn_tree.specs.declared.tree.Node.{Node}
 use Rattle.yarn_tree.specs.declared.tree.File.{File}
 use Rattle.yarn_tree.specs.Project.{IsNodeOf, AreNodesOf, IsFileOf, AreFilesOf}
-use Rattle.yarn_tree.specs.Trees.{node_tree, file_tree, grown_node, grown, stmts_or_none}
+use Rattle.yarn_tree.specs.Trees.{node_tree, file_tree, grown_node, grown}
 
 pub node-grown : (lines : NodeLines) (node : Node) → IsNodeOf lines node → node_tree node ≡ grown_node lines
 node-grown lines node is = rw (is.title, is.headers, is.line, is.end_line, block-read is.body) refl

@@ -1,6 +1,6 @@
 -- What is read of files: their lines, of which the trees are built, or the first fault: the first of the kinds that has a
 -- place, at its first place (docs/language.md, Refusals of a project).
-use Rattle.std.specs.Prelude.{◌≡◌, ℕ, ◌+◌, List, [], ◌∷◌, map, true, false, Bool, Option, Some, None, Result, Ok, Err, ⊤}
+use Rattle.std.specs.Prelude.{◌≡◌, List, [], ◌∷◌, map, true, false, Bool, Option, Some, None, Result, Ok, Err, ⊤}
 use Rattle.yarn_base.specs.declared.Place.{Place}
 use Rattle.yarn_base.specs.declared.SourceFile.{SourceFile}
 use Rattle.yarn_value.specs.declared.signature.Signature.{Signature}

@@ -1,5 +1,5 @@
 -- The trees of files as plain data, and those that the lines of files stand for.
-use Rattle.std.specs.Prelude.{ℕ, List, [], map, Option, Some, None}
+use Rattle.std.specs.Prelude.{ℕ, List, map, Option, Some, None}
 use Rattle.yarn_items.specs.declared.item.Header.{Header}
 use Rattle.yarn_blocks.specs.Tree.{Stmts, Nil}
 use Rattle.yarn_blocks.specs.Reading.{read}
