@@ -30,10 +30,10 @@ fn file_read(rt: &impl Abort, alloc: Global, file: &str) -> Result<FileRead, Mem
     read_lines(alloc, true, 0, Text::from_str(alloc, "a.yarn")?, lines)
 }
 
-fn id_of(what: &What) -> &str {
+fn id_of(alloc: Global, what: &What) -> Result<Text, Memory> {
     match what {
-        What::Statement(Simple::Line(text)) | What::Offer(text, _) => text.id.as_str(),
-        _ => "",
+        What::Statement(Simple::Line(text)) | What::Offer(text, _) => text.id.to_text(alloc),
+        _ => Text::from_str(alloc, ""),
     }
 }
 
@@ -61,7 +61,7 @@ fn a_node_has_its_lines(rt: HostRuntime) -> Result<(), Fail> {
     for (entry, (line, indent, id)) in node.body.as_slice().iter().zip(expected) {
         assert_eq!(rt; entry.line, line);
         assert_eq!(rt; entry.indent, indent, "of line {line}");
-        assert_eq!(rt; id_of(&entry.what), id, "of line {line}");
+        assert_eq!(rt; id_of(alloc, &entry.what)?.as_str(), id, "of line {line}");
     }
     Ok(())
 }
