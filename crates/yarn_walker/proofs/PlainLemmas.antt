@@ -10,7 +10,7 @@ use Rattle.yarn_meaning.specs.Texts.{TellsAll, said_in}
 use Rattle.yarn_walker.specs.Frames.{rest_of}
 use Rattle.yarn_walker.specs.Offers.{all_shown}
 use Rattle.yarn_walker.specs.States.{at}
-use Rattle.yarn_walker.specs.Walk.{files_of, from_seat, ToldSeat, IsSound, StaysSound, Turns}
+use Rattle.yarn_walker.specs.Walk.{files_of, from_seat, ToldSeat, IsSound, StaysSound, TellsTurn, Turns}
 use Rattle.yarn_walker.specs.declared.frames.Frames.{Frames}
 use Rattle.yarn_walker.specs.declared.titles.NodeAt.{NodeAt}
 use Rattle.yarn_walker.specs.declared.walk.Seat.{Seat}
@@ -53,3 +53,10 @@ module _ (w : Walk) (n : NodeAt) (old new : Frames) (seat : w.seat ≡ Within n 
     };
     titles = refl;
   }
+
+  -- a table with the texts of all files has the line's
+  pub plain_told : (o : Option (Bor LineText)) → IfSome o (λ text. rest_of old ≡ Cons (Leaf (simple.Line text.now)) (rest_of new)) → IsSound w →
+      IfSome o (λ text. TellsTurn w (turn.Line text []) (moved w n new))
+  plain_told None first sound = tt
+  plain_told (Some text) first sound = λ table all.
+      (line_told table text.now (rest_of new) (subst (λ (b : Stmts). TellsAll table (said_in b)) first (subst (ToldSeat table) seat (sound.told table all)))).0
