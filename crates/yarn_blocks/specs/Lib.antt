@@ -1,5 +1,7 @@
 pub mod LineIds
 pub mod Entries
+pub mod BodyLines
+pub mod BodyLine
 pub mod Tree
 pub mod Block
 pub mod Verdict

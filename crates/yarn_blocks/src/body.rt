@@ -6,6 +6,7 @@ ghost use Rattle.yarn_blocks.specs.Reading.{read};
 ghost use Rattle.yarn_blocks.specs.Verdict.{IsShallow};
 ghost use Rattle.yarn_blocks.specs.View.{stmts_of};
 
+use crate::body_lines::BodyLines;
 use crate::entry::Entry;
 use crate::reading::{Fault, Reading};
 use crate::tree::Stmt;
@@ -14,11 +15,11 @@ use yarn_base::{List, Memory};
 
 /// The statements that the lines of one body stand for. `judge` tells whether the condition holds, so a tree is as
 /// deep as 64 levels, and so is the recursion that lets it go.
-pub fn build(alloc: Global, entries: List<Entry>) -> Result<List<Stmt>, Memory>
-    requires { IsShallow entries }
-    ensures { IfOk result (λ stmts. Block entries [] (stmts_of stmts)) }
+pub fn build(alloc: Global, lines: BodyLines) -> Result<List<Stmt>, Memory>
+    requires { IsShallow lines }
+    ensures { IfOk result (λ stmts. Block lines [] (stmts_of stmts)) }
 {
-    match read_all(alloc, entries.into_vec()) {
+    match read_all(alloc, lines.into_entries()) {
         Ok(stmts) => Ok(stmts),
         Err(Fault::Memory) => Err(Memory),
         Err(Fault::Refused) => unreachable!(),

@@ -2,6 +2,8 @@
 #![tactic(auto)]
 
 mod body;
+mod body_line;
+mod body_lines;
 mod entry;
 mod frame;
 mod frames;
@@ -22,6 +24,8 @@ mod tree;
 mod verdict;
 
 pub use body::build;
+pub use body_line::{BodyLine, BodyWhat, Spot};
+pub use body_lines::{BodyLines, LinesLeft};
 pub use entry::{Entry, Simple, What, marks};
 pub use laws::{
     blocks_are_read, blocks_are_shallow, fronts_are_viable, goes_on_where_viable,
