@@ -13,8 +13,15 @@ use std::alloc::Global;
 use yarn_base::Memory;
 use yarn_lines::without_blanks;
 
-/// Whether the text is a line by itself, with no hashtag and no pair: as most lines are.
-pub(crate) fn is_simple_in(text: &[u8]) -> bool
+/// Whether the text is a line of a body by itself, with no substitution, no hashtag, no pair and no blanks around it, as
+/// most lines are. `plain_lines_are_said` tells what is found of it.
+pub fn is_plain(text: &str) -> bool
+    ensures { result ≡ is_simple text.now }
+{
+    is_simple_in(text.as_bytes())
+}
+
+fn is_simple_in(text: &[u8]) -> bool
     ensures { result ≡ is_simple text.now }
 {
     !has_special(text)

@@ -21,8 +21,9 @@ mod run;
 mod table;
 mod text;
 
+pub use body::is_plain;
 pub use item::{Found, Header, Item, Literals, Mode, Said};
-pub use laws::{items_are_found, nothing_is_left, one_item};
+pub use laws::{items_are_found, nothing_is_left, one_item, plain_lines_are_said};
 pub use read::read_item;
 
 #[cfg(test)]

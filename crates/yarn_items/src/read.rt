@@ -5,7 +5,7 @@ ghost use Rattle.yarn_items.specs.Item.{is_cr};
 ghost use Rattle.yarn_items.specs.Form.{found_of};
 ghost use Rattle.yarn_items.specs.declared.item.Mode.TheVariants.{InHeaders, InBody};
 
-use crate::body::{is_simple_in, read_body};
+use crate::body::{is_plain, read_body};
 use crate::heading::read_heading;
 use crate::item::{Found, Item, Mode, Said};
 use crate::literals::bare;
@@ -39,7 +39,7 @@ fn read_in_headers(alloc: Global, text: &str) -> Result<Option<Found>, Memory>
 fn read_in_body(alloc: Global, text: Text) -> Result<Option<Found>, Memory>
     ensures { IfOk result (λ found. found ≡ found_of InBody text) }
 {
-    if is_simple_in(text.as_str().as_bytes()) {
+    if is_plain(text.as_str()) {
         Ok(bare(Item::Line(Said {
             text,
             holes: List::new(alloc),

@@ -3,3 +3,4 @@ pub mod LineLemmas
 pub mod PieceLemmas
 pub mod Utf8Lemmas
 pub mod LfLemmas
+pub mod CutLemmas

@@ -9,7 +9,7 @@ use crate::line::push_line;
 use crate::piece::{first_line, first_piece};
 use crate::{LineFault, Lines};
 use std::alloc::Global;
-use yarn_base::List;
+use yarn_base::{List, WholeText};
 
 /// The most bytes of a line before its LF (docs/language.md, Lines).
 const LONGEST_LINE: usize = 65536;
@@ -63,21 +63,29 @@ fn is_text(bytes: &[u8]) -> bool
     str::from_utf8(bytes).is_ok()
 }
 
-// The lines of a text that stands at that place of its file.
+// The lines of a text that stands at that place of its file. Their texts share one copy of it.
 fn split_text(alloc: Global, text: &str, start: usize) -> Result<Lines, LineFault>
     requires { start + length text.now ≤ 1073741824 }
     ensures { SplitsText start text.now result }
 {
+    let whole = WholeText::from_str(alloc, text)?;
+    split_whole(alloc, &whole, start)
+}
+
+fn split_whole(alloc: Global, whole: &WholeText, start: usize) -> Result<Lines, LineFault>
+    requires { start + length whole.now ≤ 1073741824 }
+    ensures { SplitsText start whole.now result }
+{
     let mut lines = List::new(alloc);
     let mut number = 1;
     let mut at = start;
-    let mut rest = text;
+    let mut rest = whole.as_str();
     while !rest.is_empty() {
         let (piece, after) = first_line(rest);
         if piece.len() > LONGEST_LINE {
             return Err(LineFault::LineTooLong(number));
         }
-        push_line(alloc, &mut lines, piece, number, at)?;
+        push_line(&mut lines, whole, piece, number, start, at)?;
         number += 1;
         at += piece.len() + 1;
         rest = after;

@@ -1,11 +1,11 @@
 //! One line, and why a file has no lines.
-ghost use Rattle.std.specs.Prelude.{◌≡◌, ◌+◌, ◌*◌, ◌^◌, ◌≤◌, ◌<◌, ◌++◌, [], length, OnOk};
+ghost use Rattle.std.specs.Prelude.{◌≡◌, ◌+◌, ◌-◌, ◌≤◌, ◌++◌, length, OnOk, IfOk};
+ghost use Rattle.yarn_base.specs.Part.{cut};
 ghost use Rattle.yarn_lines.specs.Lines.{width, counts};
 ghost use Rattle.yarn_lines.specs.Piece.{line_of};
 
 use crate::piece::{content_in, leading_length};
-use std::alloc::Global;
-use yarn_base::{List, Memory, Text};
+use yarn_base::{List, Memory, Text, WholeText};
 
 /// A line that counts: its text is neither empty nor a comment (docs/language.md, Lines).
 #[derive(Debug, Drop)]
@@ -50,16 +50,19 @@ impl From<Memory> for LineFault {
     }
 }
 
-/// Puts the line of a piece behind the lines, where it counts.
+/// Puts the line of a piece behind the lines, where it counts. The whole stands at `start` in its file, and the piece of
+/// it at `at`.
 pub(crate) fn push_line(
-    alloc: Global,
     lines: &mut List<RawLine>,
+    whole: &WholeText,
     piece: &str,
     number: u32,
+    start: usize,
     at: usize,
 ) -> Result<(), Memory>
     requires short { length piece.now ≤ 65536 }
-    requires place { at ≤ 2 ^ 32 }
+    requires place { (start ≤ at) × (at + length piece.now ≤ start + length whole.now) × (start + length whole.now ≤ 1073741824) }
+    requires cut { piece.now ≡ cut (at - start) (length piece.now) whole.now }
     ensures { OnOk result (lines.new ≡ lines.old ++ line_of number at piece.now) }
 {
     let content = content_in(piece.as_bytes());
@@ -72,10 +75,19 @@ pub(crate) fn push_line(
         number,
         indent: width_in(&content[..front]),
         at: at + front,
-        text: Text::from_str(alloc, text)?,
+        text: part_of(whole, at - start + front, text)?,
     };
     lines.push(line).map_err(|_| Memory)?;
     Ok(())
+}
+
+// The text, which stands there in the whole.
+fn part_of(whole: &WholeText, from: usize, text: &str) -> Result<Text, Memory>
+    requires within { (from + length text.now ≤ length whole.now) × (length whole.now ≤ 1073741824) }
+    requires cut { text.now ≡ cut from (length text.now) whole.now }
+    ensures { IfOk result (λ part. part ≡ text.now) }
+{
+    whole.part(from as u32, text.len() as u32)
 }
 
 // Whether a line with this text counts.

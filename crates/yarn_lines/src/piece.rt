@@ -25,6 +25,8 @@ pub(crate) fn first_line(text: &str) -> (&str, &str)
     ensures pieces { pieces_of text.now ≡ result.0.now ∷ pieces_of result.1.now }
     ensures shorter { length result.1.now < length text.now }
     ensures within { length result.0.now + length result.1.now ≤ length text.now }
+    ensures front { result.0.now ≡ take (length result.0.now) text.now }
+    ensures back { result.1.now ≡ drop (length result.0.now + 1) text.now }
     ensures utf8 { IsUtf8 result.0.now × IsUtf8 result.1.now }
 {
     let end = first_lf(text.as_bytes());

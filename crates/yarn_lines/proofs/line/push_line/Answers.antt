@@ -1,7 +1,21 @@
-use Rattle.std.proofs.Common.{◌≡◌, ◌+◌, ◌∷◌, [], ◌++◌, length, take, sym, ap, ◌∙◌, rules}
+use Rattle.std.proofs.Common.{◌≡◌, ◌+◌, ◌-◌, ◌≤◌, ◌∷◌, [], ◌++◌, length, take, sym, ap, ◌∙◌, rules, arith}
+use Rattle.yarn_base.specs.Part.{cut}
 use Rattle.yarn_lines.specs.Lines.{content, leading, width}
 use Rattle.yarn_lines.proofs.LineLemmas.{boundary_at_end, boundary_at_text, text_of-between, leading-take, line_of-none, line_of-some}
+use Rattle.yarn_lines.proofs.CutLemmas.{cut-in_cut}
 use Rattle.yarn_lines.proofs.line.push_line.Goals as goal
+
+pub part_of-requires-clause-cut : goal.part_of-requires-clause-cut
+part_of-requires-clause-cut c =
+    let piece = c.args.piece.now in
+    let line = c.content_in-content.result.now in
+    let front = c.leading_length-front.result in
+    let from = c.args.at - c.args.start in
+    let within : length line ≤ length piece = (boundary_at_end piece line (c.content_in-content.ensures ∙ ap content c.as_bytes.ensures.value)).0 in
+    let shorter : front + (length line - front) ≤ length piece = omega (arith, c.leading_length-front.ensures.within) in
+    let len_is : length line - front ≡ length c.range-text.result.now = omega (arith, c.range-text.ensures.len) in
+    cut-in_cut c.args.whole.now piece c.range-text.result.now from (length piece) front (length line - front) c.requires.cut c.range-text.ensures.value shorter
+    ∙ ap (λ n. cut (from + front) n c.args.whole.now) len_is
 
 pub range-text-requires-clause-start_boundary : goal.range-text-requires-clause-start_boundary
 range-text-requires-clause-start_boundary c some =
