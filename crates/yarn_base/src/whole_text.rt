@@ -1,5 +1,5 @@
 //! A text whose parts share its bytes.
-ghost use Rattle.std.specs.Prelude.{◌≡◌, ◌+◌, ◌≤◌, length, IfOk, IsUtf8, string_bytes};
+ghost use Rattle.std.specs.Prelude.{◌≡◌, ◌+◌, ◌≤◌, length, IfOk, IfErr, IsUtf8, string_bytes};
 ghost use Rattle.yarn_base.specs.Part.{cut};
 
 use crate::part::Part;
@@ -24,14 +24,22 @@ impl Model for WholeText {
 }
 
 impl WholeText {
-    ghost use Rattle.std.specs.Prelude.{string_bytes};
-
     /// A copy of this text.
     pub fn from_str(alloc: Global, text: &str) -> Result<WholeText, Memory>
         ensures { IfOk result (λ w. w ≡ text.now) }
     {
-        let inner = Rc::new(alloc, String::from_str(alloc, text)?)?;
-        Ok(WholeText { inner })
+        WholeText::from_string(alloc, String::from_str(alloc, text)?).map_err(|_| Memory)
+    }
+
+    /// Keeps the bytes of this string. An `Err` hands it back, for want of memory.
+    pub fn from_string(alloc: Global, text: String) -> Result<WholeText, String>
+        ensures ok { IfOk result (λ w. w ≡ string_bytes text) }
+        ensures value_returned { IfErr result (λ back. back ≡ text) }
+    {
+        match Rc::new(alloc, text) {
+            Ok(inner) => Ok(WholeText { inner }),
+            Err(failed) => Err(failed.value),
+        }
     }
 
     /// The text as std has it.
