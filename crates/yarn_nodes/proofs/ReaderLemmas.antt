@@ -3,6 +3,9 @@ use Rattle.std.proofs.Common.{◌≡◌, ℕ, List, [], ◌∷◌, ◌++◌, Boo
 use Rattle.yarn_lines.specs.declared.line.RawLine.{RawLine}
 use Rattle.yarn_items.specs.declared.item.Header.{Header}
 use Rattle.yarn_items.specs.declared.item.Mode.{Mode}
+use Rattle.yarn_items.specs.declared.item.Mode.TheVariants.{InBody}
+use Rattle.yarn_items.specs.declared.item.Said.{Said}
+use Rattle.yarn_items.specs.Heading.{bare}
 use Rattle.yarn_items.specs.declared.item.Item.{Item}
 use Rattle.yarn_items.specs.declared.item.Item.TheVariants as item
 use Rattle.yarn_items.specs.declared.item.Found.{Found}
@@ -21,9 +24,9 @@ use Rattle.yarn_nodes.specs.declared.structure.Stand.{Stand}
 use Rattle.yarn_nodes.specs.declared.structure.Stand.TheVariants.{Front, Between, Headed, Inside}
 use Rattle.yarn_nodes.specs.Entries.{ItemAt, command_at}
 use Rattle.yarn_nodes.specs.Finds.{next_mode, mode_behind, and_item, items_from, told_at, first_told, is_nothing, has_many_holes, has_fraction, has_large}
-use Rattle.yarn_nodes.specs.Nodes.{no_draft, and_what, draft_behind, tags_of, nodes_from, titles_from, node_of, titled_of}
+use Rattle.yarn_nodes.specs.Nodes.{no_draft, and_what, draft_behind, tags_of, nodes_from, titles_from, node_of, titled_of, said_taken}
 use Rattle.yarn_nodes.specs.Places.{or_later}
-use Rattle.yarn_nodes.specs.Reading.{found_noted, lines_noted, misplaced_noted, item_taken, read_by, read_on, fault_of_end, fault_of_cut}
+use Rattle.yarn_nodes.specs.Reading.{found_noted, lines_noted, misplaced_noted, item_at, item_taken, read_by, read_on, fault_of_end, fault_of_cut}
 use Rattle.yarn_nodes.specs.Structure.{mode_of, header_behind, and_mark, marks_behind, tag_fault, end_fault, misplaced_end, first_misplaced, first_shown, deep_in, crowd_in}
 use Rattle.yarn_nodes.specs.Titles.{is_title, is_mistitled, titled_behind, first_mistitled}
 
@@ -199,11 +202,37 @@ item-read reader line found is number name end lines =
     ∙ ap (λ (m : Mode). read_by taken number name end (lines_noted taken.notes m lines) (items_from m lines))
     (sym (taken-mode (seen reader line.number (Some found)) line.number line.indent found.item))
 
--- the end
+-- a line that is said as it stands
 or_nothing : (o : Option ℕ) → or_later o None ≡ o
 or_nothing None = refl
 or_nothing (Some first) = refl
 
+abbrev pub found_plain : Said → Found
+found_plain said = bare (item.Line said)
+
+plain-noted : (notes : Notes) (line : ℕ) (text : List ℕ) →
+    found_noted notes line (Some (found_plain (record { text = text; holes = []; tags = [] }))) ≡ notes
+plain-noted notes line text =
+    ap (λ (o : Option ℕ). record notes { bad = o; many_holes = or_later notes.many_holes None; fraction = or_later notes.fraction None; too_large = or_later notes.too_large None }) (or_nothing notes.bad)
+    ∙ ap (λ (o : Option ℕ). record notes { many_holes = o; fraction = or_later notes.fraction None; too_large = or_later notes.too_large None }) (or_nothing notes.many_holes)
+    ∙ ap (λ (o : Option ℕ). record notes { fraction = o; too_large = or_later notes.too_large None }) (or_nothing notes.fraction)
+    ∙ ap (λ (o : Option ℕ). record notes { too_large = o }) (or_nothing notes.too_large)
+
+pub plain-read : (reader : Reader) (line : RawLine) (said : Said) (draft : Draft) → said ≡ record { text = line.text; holes = []; tags = [] } →
+    mode_of reader.stand ≡ InBody → found_of InBody line.text ≡ Some (found_plain (record { text = line.text; holes = []; tags = [] })) →
+    draft ≡ said_taken reader.ids reader.draft (item_at (record { line = line.number; indent = line.indent }) (item.Line said)) said →
+    (number : ℕ) (name : List ℕ) (end : ℕ) (lines : List RawLine) →
+    read_on reader number name end (line ∷ lines) ≡ read_on (record reader { draft = draft }) number name end lines
+plain-read reader line said draft said_is inside found taken number name end lines =
+    let own : Said = record { text = line.text; holes = []; tags = [] } in
+    let here : found_of (mode_of reader.stand) line.text ≡ Some (found_plain own) = ap (λ (m : Mode). found_of m line.text) inside ∙ found in
+    let x : ItemAt = record { line = line.number; indent = line.indent; item = item.Line own } in
+    item-read reader line (found_plain own) here number name end lines
+    ∙ ap (λ (notes : Notes). read_on (item_taken (record reader { notes = notes }) x) number name end lines) (plain-noted reader.notes line.number line.text)
+    ∙ ap (λ (s : Said). read_on (record reader { draft = said_taken reader.ids reader.draft (record { line = line.number; indent = line.indent; item = item.Line s }) s }) number name end lines) (sym said_is)
+    ∙ ap (λ (d : Draft). read_on (record reader { draft = d }) number name end lines) (sym taken)
+
+-- the end
 cut-fault : (stand : Stand) (marks : List Mark) (end : ℕ) → misplaced_end stand marks end ≡ fault_of_cut stand end (verdict_in marks)
 cut-fault Front marks end = refl
 cut-fault Between marks end = refl

@@ -13,7 +13,7 @@ use crate::ids::id_for;
 use crate::node::Titled;
 use std::alloc::Global;
 use yarn_base::{List, Memory, Text, is_name};
-use yarn_blocks::{Entry, LineId, LineText, SharedText, Simple, Verdict, What, judge, marks};
+use yarn_blocks::{BodyLines, Entry, LineId, LineText, SharedText, Simple, Verdict, What};
 use yarn_commands::Command;
 use yarn_expr::Expr;
 use yarn_items::{Header, Said};
@@ -25,7 +25,7 @@ pub(crate) struct Draft {
     pub headers: List<Header>,
     /// The line of its `---`.
     pub line: u32,
-    pub body: List<Entry>,
+    pub body: BodyLines,
     /// How many lines and options of the body there are.
     pub said: u64,
 }
@@ -38,7 +38,7 @@ impl Draft {
             title: None,
             headers: List::new(alloc),
             line: 0,
-            body: List::new(alloc),
+            body: BodyLines::new(alloc),
             said: 0,
         }
     }
@@ -69,7 +69,7 @@ impl Draft {
         ensures { self.new ≡ body_begun self.old line }
     {
         self.line = line;
-        self.body = List::new(alloc);
+        self.body = BodyLines::new(alloc);
         self.said = 0;
     }
 
@@ -84,7 +84,8 @@ impl Draft {
         ensures { OnOk result (self.new ≡ said_taken ids self.old (item_at spot (item.Line said)) said) }
     {
         let text = self.next_text(alloc, ids, spot.line, said)?;
-        self.add(spot, What::Statement(Simple::Line(text)))
+        self.body
+            .push_statement(spot.line, spot.indent, Simple::Line(text))
     }
 
     /// Takes an option; it has an id where ids are wanted.
@@ -122,15 +123,15 @@ impl Draft {
         ensures { OnOk result (self.new ≡ other_taken self.old (item_at spot (item.Game said))) }
     {
         let text = text_at(spot.line, LineId::none(), said);
-        self.add(spot, What::Statement(Simple::Command(text)))
+        self.body
+            .push_statement(spot.line, spot.indent, Simple::Command(text))
     }
 
     /// What the lines of the body are so far.
     pub(crate) fn verdict(&self, alloc: Global) -> Result<Verdict, Memory>
         ensures { IfOk result (λ verdict. verdict ≡ verdict_in (marks_of self.now.body)) }
     {
-        let marks = marks(alloc, self.body.as_slice())?;
-        judge(alloc, marks.as_slice())
+        self.body.verdict(alloc)
     }
 
     // What is said with the next id; it is counted.
@@ -154,9 +155,7 @@ impl Draft {
         ensures { OnOk result (self.new ≡ with_entry self.old (record { line = spot.line; indent = spot.indent; what = what })) }
     {
         let Spot { line, indent } = spot;
-        self.body
-            .push(Entry { line, indent, what })
-            .map_err(|_| Memory)
+        self.body.push(Entry { line, indent, what })
     }
 }
 

@@ -3,7 +3,7 @@ ghost use Rattle.std.specs.Prelude.{◌≡◌};
 ghost use Rattle.yarn_nodes.specs.Noted.{noted_as};
 
 use yarn_base::{List, Text};
-use yarn_blocks::{Entry, SharedText};
+use yarn_blocks::{BodyLines, SharedText};
 use yarn_items::Header;
 
 /// A file of the project (docs/language.md, Nodes).
@@ -26,7 +26,7 @@ pub struct NodeLines {
     /// The line of its `===`.
     pub end_line: u32,
     /// The lines of its body.
-    pub body: List<Entry>,
+    pub body: BodyLines,
 }
 
 /// The title of a node, and the line of its header.

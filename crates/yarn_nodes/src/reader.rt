@@ -1,5 +1,8 @@
 //! Reads the lines of a file one by one: its nodes so far, and what was noted of them.
-ghost use Rattle.std.specs.Prelude.{◌≡◌, ◌∷◌, [], List, ℕ, IfOk, OnOk};
+ghost use Rattle.std.specs.Prelude.{◌≡◌, ◌∷◌, [], List, ℕ, IfOk, OnOk, true};
+ghost use Rattle.yarn_items.specs.declared.item.Mode.TheVariants.{InBody};
+ghost use Rattle.yarn_items.specs.Simple.{is_simple};
+ghost use Rattle.yarn_nodes.specs.Structure.{mode_of};
 ghost use Rattle.yarn_lines.specs.declared.line.RawLine.{RawLine as RawLineOf};
 ghost use Rattle.yarn_nodes.specs.Reader.{file_of};
 
@@ -10,7 +13,7 @@ use crate::structure::Stand;
 use std::alloc::Global;
 use std::mem;
 use yarn_base::{List as Items, Memory, Text};
-use yarn_items::{Header, Item, read_item};
+use yarn_items::{Header, Item, Said, is_plain, plain_lines_are_said, read_item};
 use yarn_lines::{Lines, RawLine};
 
 /// What of a file has been read.
@@ -43,6 +46,39 @@ impl Reader {
     }
 
     fn take(&mut self, alloc: Global, line: RawLine) -> Result<(), Memory>
+        ensures { OnOk result ((number : ℕ) (name : List ℕ) (end : ℕ) (lines : List RawLineOf) →
+            read_on self.old number name end (line ∷ lines) ≡ read_on self.new number name end lines) }
+    {
+        if self.stand.is_inside() && is_plain(line.text.as_str()) {
+            self.take_plain(alloc, line)
+        } else {
+            self.take_other(alloc, line)
+        }
+    }
+
+    // A line that is said as it stands, as most are.
+    fn take_plain(&mut self, alloc: Global, line: RawLine) -> Result<(), Memory>
+        requires inside { mode_of self.old.stand ≡ InBody }
+        requires plain { is_simple line.text ≡ true }
+        ensures { OnOk result ((number : ℕ) (name : List ℕ) (end : ℕ) (lines : List RawLineOf) →
+            read_on self.old number name end (line ∷ lines) ≡ read_on self.new number name end lines) }
+    {
+        plain_lines_are_said();
+        let RawLine {
+            number,
+            indent,
+            text,
+            ..
+        } = line;
+        let spot = Spot {
+            line: number,
+            indent,
+        };
+        self.draft.take_line(alloc, self.ids, spot, said_plain(alloc, text))
+    }
+
+    // Any line.
+    fn take_other(&mut self, alloc: Global, line: RawLine) -> Result<(), Memory>
         ensures { OnOk result ((number : ℕ) (name : List ℕ) (end : ℕ) (lines : List RawLineOf) →
             read_on self.old number name end (line ∷ lines) ≡ read_on self.new number name end lines) }
     {
@@ -184,4 +220,15 @@ pub fn read_lines(
         reader.take(alloc, line)?;
     }
     reader.finish(alloc, number, name, end)
+}
+
+// What is said by a text as it stands.
+fn said_plain(alloc: Global, text: Text) -> Said
+    ensures { result ≡ record { text = text; holes = []; tags = [] } }
+{
+    Said {
+        text,
+        holes: Items::new(alloc),
+        tags: Items::new(alloc),
+    }
 }

@@ -1,5 +1,6 @@
 //! Where the items of a file may stand.
-ghost use Rattle.std.specs.Prelude.{◌≡◌};
+ghost use Rattle.std.specs.Prelude.{◌≡◌, true};
+ghost use Rattle.yarn_items.specs.declared.item.Mode.TheVariants.{InBody};
 ghost use Rattle.yarn_nodes.specs.Reading.{fault_of_end, fault_of_cut};
 ghost use Rattle.yarn_nodes.specs.Structure.{mode_of, header_behind, tag_fault as fault_of_tag, body_fault as fault_of_body, cut_fault as fault_of_rest};
 
@@ -26,6 +27,16 @@ impl Stand {
         match self {
             Stand::Front | Stand::Between | Stand::Headed => Mode::InHeaders,
             Stand::Inside => Mode::InBody,
+        }
+    }
+
+    /// Whether a body is open there.
+    pub(crate) fn is_inside(self) -> bool
+        ensures { result ≡ true → mode_of self ≡ InBody }
+    {
+        match self {
+            Stand::Front | Stand::Between | Stand::Headed => false,
+            Stand::Inside => true,
         }
     }
 

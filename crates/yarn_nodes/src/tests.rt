@@ -3,7 +3,7 @@ use std::alloc::Global;
 use std::process::Abort;
 use std::test::Fail;
 use yarn_base::{List, Memory, Text};
-use yarn_blocks::{Simple, What};
+use yarn_blocks::{BodyWhat, Simple, Stmt, What};
 use yarn_lines::split;
 
 const NOTHING: Notes = Notes {
@@ -30,9 +30,12 @@ fn file_read(rt: &impl Abort, alloc: Global, file: &str) -> Result<FileRead, Mem
     read_lines(alloc, true, 0, Text::from_str(alloc, "a.yarn")?, lines)
 }
 
-fn id_of(alloc: Global, what: &What) -> Result<Text, Memory> {
+fn id_of(alloc: Global, what: BodyWhat<'_>) -> Result<Text, Memory> {
     match what {
-        What::Statement(Simple::Line(text)) | What::Offer(text, _) => text.id.to_text(alloc),
+        BodyWhat::Statement(Stmt::Line(text)) => text.id.to_text(alloc),
+        BodyWhat::Structure(What::Statement(Simple::Line(text)) | What::Offer(text, _)) => {
+            text.id.to_text(alloc)
+        }
         _ => Text::from_str(alloc, ""),
     }
 }
@@ -58,10 +61,14 @@ fn a_node_has_its_lines(rt: HostRuntime) -> Result<(), Fail> {
         (7, 0, ""),
     ];
     assert_eq!(rt; node.body.len(), expected.len());
-    for (entry, (line, indent, id)) in node.body.as_slice().iter().zip(expected) {
-        assert_eq!(rt; entry.line, line);
-        assert_eq!(rt; entry.indent, indent, "of line {line}");
-        assert_eq!(rt; id_of(alloc, &entry.what)?.as_str(), id, "of line {line}");
+    let mut left = node.body.lines();
+    for (line, indent, id) in expected {
+        let Some(found) = left.take_first() else {
+            panic!(rt; "no line {line}");
+        };
+        assert_eq!(rt; found.line, line);
+        assert_eq!(rt; found.indent, indent, "of line {line}");
+        assert_eq!(rt; id_of(alloc, found.what)?.as_str(), id, "of line {line}");
     }
     Ok(())
 }

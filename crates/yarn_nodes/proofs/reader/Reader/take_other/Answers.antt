@@ -7,7 +7,7 @@ use Rattle.yarn_nodes.specs.declared.reader.Reader.{Reader}
 use Rattle.yarn_nodes.specs.Reading.{read_on, item_taken, found_noted}
 use Rattle.yarn_nodes.specs.Structure.{mode_of}
 use Rattle.yarn_nodes.proofs.ReaderLemmas.{item-read, nothing-read}
-use Rattle.yarn_nodes.proofs.reader.Reader.take.Goals as goal
+use Rattle.yarn_nodes.proofs.reader.Reader.take_other.Goals as goal
 
 pub returns-in-Some : goal.returns-in-Some
 returns-in-Some c =
