@@ -1,5 +1,5 @@
 -- The frames are fewer once an option is closed, and shallow entries are read.
-use Rattle.std.proofs.Common.{◌≡◌, ℕ, suc, ◌<◌, true, List, [], ◌∷◌, length, Some, None, refl, sym, ap, ◌∙◌, subst, arith}
+use Rattle.std.proofs.Common.{◌≡◌, ℕ, suc, ◌<◌, true, List, [], ◌∷◌, length, Option, Some, None, refl, sym, ap, ◌∙◌, subst, arith}
 use Rattle.yarn_blocks.specs.declared.entry.Entry.{Entry}
 use Rattle.yarn_blocks.specs.declared.verdict.Excess.{Excess}
 use Rattle.yarn_blocks.specs.declared.frame.Frame.{Frame}
@@ -31,15 +31,15 @@ closed-shorter i old new e same =
     let less : length (closed (state_of old)).frames < length (frames_of old.frames) = closed-less i old.frames old e in
     omega (arith, length-frames new.frames, length-frames old.frames)
 
--- what `build` reads, by the entries of a vector
-pub not_refused : (xs ys : List Entry) (f : Fault) → ys ≡ xs → f ≡ Refused → Refuses f (read ys) → IsShallow xs → ⊥
-not_refused xs ys f same is e shallow =
-    let none : read ys ≡ None = subst (λ f. Refuses f (read ys)) is e in
-    let some : read ys ≡ Some shallow.stmts = ap read same ∙ block-read shallow.block in
+-- what `build` reads, by the parts of the lines
+pub not_refused : (xs : List Entry) (o : Option Stmts) (f : Fault) → read xs ≡ o → f ≡ Refused → Refuses f o → IsShallow xs → ⊥
+not_refused xs o f same is e shallow =
+    let none : o ≡ None = subst (λ f. Refuses f o) is e in
+    let some : read xs ≡ Some shallow.stmts = block-read shallow.block in
     absurd (cc)
 
-pub built : (xs ys : List Entry) (b : Stmts) → ys ≡ xs → read ys ≡ Some b → Block xs [] b
-built xs ys b same e = read-block xs b (sym (ap read same) ∙ e)
+pub built : (xs : List Entry) (o : Option Stmts) (b : Stmts) → read xs ≡ o → o ≡ Some b → Block xs [] b
+built xs o b same e = read-block xs b (same ∙ e)
 
 pub block-shallow : (xs : List Entry) (excess : Excess) → IsBlock xs excess → excess.too_deep ≡ None → IsShallow xs
 block-shallow xs excess block none = record { stmts = block.stmts; block = block.block; shallow = sym block.deep ∙ none }

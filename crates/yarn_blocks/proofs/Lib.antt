@@ -9,6 +9,7 @@ pub mod MarkLemmas
 pub mod LevelLemmas
 pub mod Views
 pub mod FrameLemmas
+pub mod BodyLineLemmas
 pub mod Laid
 pub mod Renumber
 pub mod Injective

@@ -1,6 +1,7 @@
 -- The lines of a body as they are kept while no tree is made of them: statements as they stand in trees, each with its
 -- line and its indent, and entries behind them.
-use Rattle.std.specs.Prelude.{List, [], ◌∷◌, Bool, true, false}
+use Rattle.std.specs.Prelude.{◌≡◌, List, [], ◌∷◌, length, Bool, true, false}
+use Rattle.std.specs.List.{list_all}
 use Rattle.yarn_blocks.specs.declared.entry.Entry.{Entry}
 use Rattle.yarn_blocks.specs.declared.entry.What.TheVariants as what
 use Rattle.yarn_blocks.specs.declared.entry.Simple.{Simple}
@@ -34,3 +35,8 @@ abbrev pub entries_at : List Stmt → List Spot → List Entry
 entries_at [] ps = []
 entries_at (s ∷ ss) [] = []
 entries_at (s ∷ ss) (p ∷ ps) = entry_at s p ∷ entries_at ss ps
+
+-- the statements are one line each, and have a place each
+pub record AreLines (ss : List Stmt) (ps : List Spot) : Type 0 where
+  pub as_many : length ss ≡ length ps
+  pub leaves : list_all is_leaf ss ≡ true

@@ -4,8 +4,10 @@ use Rattle.yarn_blocks.specs.declared.tree.Stmt.{Stmt}
 use Rattle.yarn_blocks.specs.declared.reading.Reading.{Reading}
 use Rattle.yarn_blocks.specs.declared.reading.Fault.{Fault}
 use Rattle.yarn_blocks.specs.declared.reading.Fault.TheVariants.{Refused, Memory}
-use Rattle.yarn_blocks.specs.Tree.{Stmts}
-use Rattle.yarn_blocks.specs.Reading.{State, Frame, InOption, InClause, InElse, Held, settled, with_option, all_of}
+use Rattle.std.specs.Prelude.{option_and_then}
+use Rattle.yarn_blocks.specs.declared.entry.Entry.{Entry}
+use Rattle.yarn_blocks.specs.Tree.{Stmts, NoOptions}
+use Rattle.yarn_blocks.specs.Reading.{State, Frame, InOption, InClause, InElse, Held, settled, with_option, all_of, go, finish}
 use Rattle.yarn_blocks.specs.Frames.{frames_of, held_of}
 use Rattle.yarn_blocks.specs.View.{stmts_of}
 
@@ -24,6 +26,14 @@ Gives (Err e) read = Refuses e read
 abbrev pub GivesStmts : Result (List Stmt) Fault → Option Stmts → Type 0
 GivesStmts (Ok b) read = read ≡ Some (stmts_of b)
 GivesStmts (Err e) read = Refuses e read
+
+-- the statements are read, and nothing is open
+abbrev pub behind : Stmts → State
+behind b = record { frames = []; top = record { done = b; group = NoOptions } }
+
+-- what the statements are with the entries behind them; None where that is no block
+abbrev pub read_behind : Stmts → List Entry → Option Stmts
+read_behind b xs = option_and_then finish (go (behind b) xs)
 
 -- the innermost option ends
 abbrev pub closed_in : List Frame → Held → State

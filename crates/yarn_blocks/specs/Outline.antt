@@ -95,6 +95,10 @@ verdict_from at o (m ∷ ms) = verdict_after at m.line (λ p. verdict_from (at +
 abbrev pub verdict_in : List Mark → Verdict
 verdict_in ms = verdict_from 0 (record { levels = []; count = 0; excess = no_excess }) ms
 
+-- the same behind so many lines that are statements
+abbrev pub verdict_behind : ℕ → List Mark → Verdict
+verdict_behind before ms = verdict_from before (record { levels = []; count = 0; excess = no_excess }) ms
+
 -- the innermost option ends
 abbrev pub closed_levels : List Level → ℕ → Rest
 closed_levels [] count = record { levels = []; count = count }

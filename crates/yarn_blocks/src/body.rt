@@ -1,8 +1,7 @@
 //! The statements of a body.
 ghost use Rattle.std.specs.Prelude.{◌≡◌, [], IfOk};
 ghost use Rattle.yarn_blocks.specs.Block.{Block};
-ghost use Rattle.yarn_blocks.specs.Building.{GivesStmts};
-ghost use Rattle.yarn_blocks.specs.Reading.{read};
+ghost use Rattle.yarn_blocks.specs.Building.{GivesStmts, read_behind};
 ghost use Rattle.yarn_blocks.specs.Verdict.{IsShallow};
 ghost use Rattle.yarn_blocks.specs.View.{stmts_of};
 
@@ -19,17 +18,19 @@ pub fn build(alloc: Global, lines: BodyLines) -> Result<List<Stmt>, Memory>
     requires { IsShallow lines }
     ensures { IfOk result (λ stmts. Block lines [] (stmts_of stmts)) }
 {
-    match read_all(alloc, lines.into_entries()) {
+    let (stmts, entries) = lines.into_parts();
+    match read_all(alloc, stmts, entries) {
         Ok(stmts) => Ok(stmts),
         Err(Fault::Memory) => Err(Memory),
         Err(Fault::Refused) => unreachable!(),
     }
 }
 
-fn read_all(alloc: Global, entries: Vec<Entry>) -> Result<List<Stmt>, Fault>
-    ensures { GivesStmts result (read entries.items) }
+/// The statements with what the entries behind them are.
+fn read_all(alloc: Global, stmts: List<Stmt>, entries: Vec<Entry>) -> Result<List<Stmt>, Fault>
+    ensures { GivesStmts result (read_behind (stmts_of stmts) entries.items) }
 {
-    let mut reading = Reading::new(alloc);
+    let mut reading = Reading::behind(alloc, stmts);
     for entry in entries {
         reading = reading.take_next(alloc, entry)?;
     }

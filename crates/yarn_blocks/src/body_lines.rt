@@ -1,25 +1,35 @@
 //! The lines of a body while no tree is made of them.
-ghost use Rattle.std.specs.Prelude.{◌≡◌, ◌++◌, ◌∷◌, [], length, IfOk, OnOk};
+ghost use Rattle.std.specs.Prelude.{◌≡◌, ◌++◌, ◌∷◌, [], length, IfOk, OnOk, OnErr, is_ok, if◌then◌else◌};
 ghost use Rattle.yarn_blocks.specs.declared.entry.What.TheVariants as what;
 ghost use Rattle.yarn_blocks.specs.BodyLine.{TakesFirst};
+ghost use Rattle.yarn_blocks.specs.Building.{read_behind};
 ghost use Rattle.yarn_blocks.specs.Entries.{marks_of};
 ghost use Rattle.yarn_blocks.specs.Outline.{verdict_in};
+ghost use Rattle.yarn_blocks.specs.Reading.{read};
+ghost use Rattle.yarn_blocks.specs.View.{stmts_of};
 
-use crate::body_line::{BodyLine, BodyWhat};
+use crate::body_line::{BodyLine, BodyWhat, Spot};
 use crate::entry::{Entry, Simple, What, marks};
-use crate::verdict::{Verdict, judge};
+use crate::reading::leaf;
+use crate::tree::Stmt;
+use crate::verdict::{Verdict, judged_behind};
 use std::alloc::Global;
 use std::marker::Model;
-use yarn_base::Memory;
+use yarn_base::{List, Memory};
 
 /// The lines of a body, in order. Contracts see the list of them.
 #[derive(Debug, Drop)]
 pub struct BodyLines {
-    entries: Vec<Entry>,
+    /// The statements in front, as they stand in the tree.
+    stmts: Vec<Stmt>,
+    /// Where each of them stands.
+    spots: Vec<Spot>,
+    /// The lines from the first on that is no statement.
+    rest: Vec<Entry>,
 }
 
 impl Model for BodyLines {
-    ghost use Rattle.std.specs.Prelude.{List};
+    ghost use Rattle.std.specs.Prelude.{List, ◌++◌};
     ghost use Rattle.std.specs.Coded.{codes};
     ghost use Rattle.yarn_expr.specs.contracts.tree.Expr as expr;
     ghost use Rattle.yarn_blocks.specs.declared.entry.Entry.{Entry};
@@ -28,7 +38,33 @@ impl Model for BodyLines {
 
     ghost coded = { Prim.hlevel (codes, expr.the_row.coded) };
 
-    ghost view = { λ b. b.entries.items };
+    ghost use Rattle.yarn_blocks.specs.BodyLines.{entries_at, AreLines};
+
+    ghost view = { λ b. entries_at b.stmts.items b.spots.items ++ b.rest.items };
+
+    ghost invariant = { λ b. AreLines b.stmts.items b.spots.items };
+}
+
+/// One more statement.
+fn put_stmt(stmts: &mut Vec<Stmt>, stmt: Stmt) -> Result<(), Memory>
+    ensures ok { OnOk result (stmts.new.items ≡ stmts.old.items ++ stmt ∷ []) }
+    ensures err { OnErr result (stmts.new.items ≡ stmts.old.items) }
+{
+    stmts.push(stmt)?;
+    Ok(())
+}
+
+/// One more statement with its place; both or none.
+fn put(stmts: &mut Vec<Stmt>, spots: &mut Vec<Spot>, stmt: Stmt, spot: Spot) -> Result<(), Memory>
+    ensures stmts { stmts.new.items ≡ (if is_ok result then stmts.old.items ++ stmt ∷ [] else stmts.old.items) }
+    ensures spots { spots.new.items ≡ (if is_ok result then spots.old.items ++ spot ∷ [] else spots.old.items) }
+{
+    spots.push(spot)?;
+    let put = put_stmt(stmts, stmt);
+    if put.is_err() {
+        let _ = spots.pop();
+    }
+    put
 }
 
 impl BodyLines {
@@ -37,19 +73,34 @@ impl BodyLines {
         ensures { result ≡ [] }
     {
         BodyLines {
-            entries: Vec::new(alloc),
+            stmts: Vec::new(alloc),
+            spots: Vec::new(alloc),
+            rest: Vec::new(alloc),
         }
+    }
+
+    /// Puts the line behind one that is no statement, or puts one that is none.
+    #[tactic(auto, using(crate::proofs::BodyLineLemmas::rest_more))]
+    fn push_rest(&mut self, entry: Entry) -> Result<(), Memory>
+        ensures { OnOk result (self.new ≡ self.old ++ entry ∷ []) }
+    {
+        self.rest.push(entry)?;
+        Ok(())
     }
 
     /// Puts the line last.
     pub fn push(&mut self, entry: Entry) -> Result<(), Memory>
         ensures { OnOk result (self.new ≡ self.old ++ entry ∷ []) }
     {
-        self.entries.push(entry)?;
-        Ok(())
+        let Entry { line, indent, what } = entry;
+        match what {
+            What::Statement(simple) => self.push_statement(line, indent, simple),
+            what => self.push_rest(Entry { line, indent, what }),
+        }
     }
 
     /// Puts a line that is a statement last.
+    #[tactic(auto, using(crate::proofs::BodyLineLemmas::lines_more))]
     pub fn push_statement(
         &mut self,
         line: u32,
@@ -58,18 +109,23 @@ impl BodyLines {
     ) -> Result<(), Memory>
         ensures { OnOk result (self.new ≡ self.old ++ (record { line = line; indent = indent; what = what.Statement statement }) ∷ []) }
     {
-        self.push(Entry {
-            line,
-            indent,
-            what: What::Statement(statement),
-        })
+        if !self.rest.is_empty() {
+            return self.push_rest(Entry {
+                line,
+                indent,
+                what: What::Statement(statement),
+            });
+        }
+        let spot = Spot { line, indent };
+        put(&mut self.stmts, &mut self.spots, leaf(statement), spot)?;
+        Ok(())
     }
 
     /// How many lines there are.
     pub fn len(&self) -> usize
         ensures { result ≡ length self.now }
     {
-        self.entries.len()
+        self.stmts.as_slice().len() + self.rest.as_slice().len()
     }
 
     /// The lines to look at, one after the other.
@@ -77,7 +133,9 @@ impl BodyLines {
         ensures { result ≡ self.now }
     {
         LinesLeft {
-            entries: self.entries.as_slice(),
+            stmts: self.stmts.as_slice(),
+            spots: self.spots.as_slice(),
+            rest: self.rest.as_slice(),
         }
     }
 
@@ -85,27 +143,33 @@ impl BodyLines {
     pub fn verdict(&self, alloc: Global) -> Result<Verdict, Memory>
         ensures { IfOk result (λ verdict. verdict ≡ verdict_in (marks_of self.now)) }
     {
-        let marks = marks(alloc, self.entries.as_slice())?;
-        judge(alloc, marks.as_slice())
+        let marks = marks(alloc, self.rest.as_slice())?;
+        judged_behind(alloc, self.stmts.as_slice().len(), marks.as_slice())
     }
 
-    /// The lines, each with all that it is.
-    pub(crate) fn into_entries(self) -> Vec<Entry>
-        ensures { result.items ≡ self }
+    /// The statements in front, and the lines behind them, each with all that it is.
+    pub(crate) fn into_parts(self) -> (List<Stmt>, Vec<Entry>)
+        ensures { read self ≡ read_behind (stmts_of result.0) result.1.items }
     {
-        let BodyLines { entries } = self;
-        entries
+        let BodyLines {
+            stmts,
+            spots: _,
+            rest,
+        } = self;
+        (List::from_vec(stmts), rest)
     }
 }
 
 /// Lines that aren't looked at yet. Contracts see the list of them.
 #[derive(Drop)]
 pub struct LinesLeft<'a> {
-    entries: &'a [Entry],
+    stmts: &'a [Stmt],
+    spots: &'a [Spot],
+    rest: &'a [Entry],
 }
 
 impl<'a> Model for LinesLeft<'a> {
-    ghost use Rattle.std.specs.Prelude.{List};
+    ghost use Rattle.std.specs.Prelude.{List, ◌++◌, ◌≡◌, length};
     ghost use Rattle.std.specs.Coded.{codes};
     ghost use Rattle.yarn_expr.specs.contracts.tree.Expr as expr;
     ghost use Rattle.yarn_blocks.specs.declared.entry.Entry.{Entry};
@@ -114,7 +178,11 @@ impl<'a> Model for LinesLeft<'a> {
 
     ghost coded = { Prim.hlevel (codes, expr.the_row.coded) };
 
-    ghost view = { λ l. l.entries.now };
+    ghost use Rattle.yarn_blocks.specs.BodyLines.{entries_at};
+
+    ghost view = { λ l. entries_at l.stmts.now l.spots.now ++ l.rest.now };
+
+    ghost invariant = { λ l. length l.stmts.now ≡ length l.spots.now };
 }
 
 impl<'a> LinesLeft<'a> {
@@ -122,8 +190,20 @@ impl<'a> LinesLeft<'a> {
     pub fn take_first(&mut self) -> Option<BodyLine<'a>>
         ensures { TakesFirst self.old result self.new }
     {
-        let (first, rest) = self.entries.split_first()?;
-        self.entries = rest;
+        if let (Some((stmt, stmts)), Some((spot, spots))) = (
+            self.stmts.split_first(),
+            self.spots.split_first(),
+        ) {
+            self.stmts = stmts;
+            self.spots = spots;
+            return Some(BodyLine {
+                line: spot.line,
+                indent: spot.indent,
+                what: BodyWhat::Statement(stmt),
+            });
+        }
+        let (first, rest) = self.rest.split_first()?;
+        self.rest = rest;
         Some(BodyLine {
             line: first.line,
             indent: first.indent,

@@ -1,11 +1,12 @@
 //! One pass over the lines of a body, which makes its statements.
 ghost use Rattle.std.specs.Prelude.{◌≡◌, true, IfOk};
 ghost use Rattle.yarn_blocks.specs.declared.entry.What.TheVariants as what;
-ghost use Rattle.yarn_blocks.specs.Building.{state_of, Gives, GivesStmts, closed, settled_of};
+ghost use Rattle.yarn_blocks.specs.BodyLines.{is_leaf, leaf_of};
+ghost use Rattle.yarn_blocks.specs.Building.{state_of, behind, Gives, GivesStmts, closed, settled_of};
 ghost use Rattle.yarn_blocks.specs.Frames.{ends_frame};
-ghost use Rattle.yarn_blocks.specs.Reading.{start, step, placed, taken, finish as finish_of};
+ghost use Rattle.yarn_blocks.specs.Reading.{step, placed, taken, finish as finish_of};
 ghost use Rattle.yarn_blocks.specs.Tree.{Leaf, Choice};
-ghost use Rattle.yarn_blocks.specs.View.{stmt_of, clauses_of, last_of};
+ghost use Rattle.yarn_blocks.specs.View.{stmt_of, stmts_of, clauses_of, last_of};
 
 use crate::entry::{Entry, Simple, What};
 use crate::frame::Frame;
@@ -43,8 +44,10 @@ impl From<Memory> for Fault {
 }
 
 /// A statement that is one line.
-fn statement(simple: Simple) -> Stmt
-    ensures { stmt_of result ≡ Leaf simple }
+pub(crate) fn leaf(simple: Simple) -> Stmt
+    ensures view { stmt_of result ≡ Leaf simple }
+    ensures one_line { is_leaf result ≡ true }
+    ensures same { leaf_of result ≡ simple }
 {
     match simple {
         Simple::Line(text) => Stmt::Line(text),
@@ -66,13 +69,16 @@ fn whole_if(clauses: List<Clause>, last: Option<ElseClause>, head: Head) -> Stmt
 }
 
 impl Reading {
-    /// Nothing is read.
-    pub(crate) fn new(alloc: Global) -> Reading
-        ensures { state_of result ≡ start }
+    /// Nothing but these statements is read.
+    pub(crate) fn behind(alloc: Global, done: List<Stmt>) -> Reading
+        ensures { state_of result ≡ behind (stmts_of done) }
     {
         Reading {
             frames: Frames::new(alloc),
-            top: Held::new(alloc),
+            top: Held {
+                done,
+                group: List::new(alloc),
+            },
         }
     }
 
@@ -108,7 +114,7 @@ impl Reading {
         ensures { Gives result (taken (state_of self) 0 (what.Statement simple)) }
     {
         let Reading { frames, top } = self;
-        let top = top.add_stmt(alloc, statement(simple))?;
+        let top = top.add_stmt(alloc, leaf(simple))?;
         Ok(Reading { frames, top })
     }
 

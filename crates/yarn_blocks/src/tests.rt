@@ -2,8 +2,8 @@ ghost use Rattle.std.specs.Prelude.{◌≡◌, IfOk};
 ghost use Rattle.yarn_blocks.specs.Entries.{HaveLines, line_in};
 
 use crate::{
-    Entry, Excess, LineId, LineText, Mark, OptionItem, Shape, SharedText, Simple, Stmt, Verdict,
-    What, build, judge, marks,
+    BodyLine, BodyLines, BodyWhat, Entry, Excess, LineId, LineText, Mark, OptionItem, Shape,
+    SharedText, Simple, Stmt, Verdict, What, build, judge,
 };
 use std::alloc::Global;
 use std::process::Abort;
@@ -178,18 +178,28 @@ fn said(alloc: Global, line: u32, indent: u32, words: &str) -> Result<Entry, Mem
     Ok(Entry { line, indent, what })
 }
 
-// The statements, where the lines are a block that is nowhere too deep.
-fn statements(alloc: Global, entries: List<Entry>) -> Result<Option<List<Stmt>>, Memory>
-    requires { HaveLines entries }
+fn lines_of(alloc: Global, entries: List<Entry>) -> Result<BodyLines, Memory>
+    ensures { IfOk result (λ lines. lines ≡ entries) }
 {
-    let marks = marks(alloc, entries.as_slice())?;
-    match judge(alloc, marks.as_slice())? {
+    let mut lines = BodyLines::new(alloc);
+    for entry in entries.into_vec() {
+        lines.push(entry)?;
+    }
+    Ok(lines)
+}
+
+// The statements, where the lines are a block that is nowhere too deep.
+#[tactic(auto, using(crate::proofs::Outlines::marks_tell))]
+fn statements(alloc: Global, lines: BodyLines) -> Result<Option<List<Stmt>>, Memory>
+    requires { HaveLines lines }
+{
+    match lines.verdict(alloc)? {
         Verdict::Block(
             Excess {
                 too_deep: None,
                 too_many: _,
             },
-        ) => Ok(Some(build(alloc, entries)?)),
+        ) => Ok(Some(build(alloc, lines)?)),
         _ => Ok(None),
     }
 }
@@ -229,7 +239,8 @@ fn options_are_grouped(rt: HostRuntime) -> Result<(), Fail> {
         said(alloc, 8, 4, "Cold.")?,
         said(alloc, 9, 0, "Done.")?,
     ]?;
-    let Some(whole) = statements(alloc, List::from_vec(entries))? else {
+    let lines = lines_of(alloc, List::from_vec(entries))?;
+    let Some(whole) = statements(alloc, lines)? else {
         panic!(rt; "no tree");
     };
     assert_eq!(rt; whole.len(), 2);
@@ -243,6 +254,48 @@ fn options_are_grouped(rt: HostRuntime) -> Result<(), Fail> {
     assert!(rt; is_line(body(&rt, kinds, 0), 0, "White."), "in Milk");
     assert!(rt; is_line(body(&rt, kinds, 1), 0, "Black."), "in Plain");
     assert!(rt; is_line(body(&rt, kinds, 2), 0, "Cold."), "in Water");
+    Ok(())
+}
+
+fn is_statement(line: Option<BodyLine>) -> bool {
+    match line {
+        Some(line) => matches!(line.what, BodyWhat::Statement(_)),
+        None => false,
+    }
+}
+
+// A statement, an option and a statement behind it.
+fn three(alloc: Global) -> Result<BodyLines, Memory>
+    ensures { IfOk result HaveLines }
+{
+    let mut lines = BodyLines::new(alloc);
+    lines.push(said(alloc, 1, 4, "One.")?)?;
+    lines.push(option(alloc, 2, 0, "Two")?)?;
+    lines.push(said(alloc, 3, 0, "Three.")?)?;
+    Ok(lines)
+}
+
+#[test]
+fn lines_are_looked_at(rt: HostRuntime) -> Result<(), Fail> {
+    let lines = three(rt.alloc())?;
+    assert_eq!(rt; lines.len(), 3);
+    let mut left = lines.lines();
+    assert!(rt; is_statement(left.take_first()), "in front");
+    assert!(rt; !is_statement(left.take_first()), "the option");
+    assert!(rt; !is_statement(left.take_first()), "behind it");
+    assert!(rt; left.take_first().is_none(), "at the end");
+    Ok(())
+}
+
+#[test]
+fn statements_in_front_are_built(rt: HostRuntime) -> Result<(), Fail> {
+    let alloc = rt.alloc();
+    let Some(whole) = statements(alloc, three(alloc)?)? else {
+        panic!(rt; "no tree");
+    };
+    assert!(rt; is_line(&whole, 0, "One."), "in front");
+    assert_eq!(rt; options(&rt, &whole, 1).len(), 1);
+    assert!(rt; is_line(&whole, 2, "Three."), "behind it");
     Ok(())
 }
 

@@ -2,8 +2,8 @@
 //!
 //! The pass goes over marks alone and keeps what is open, so that no tree is made of a body before it is known to be
 //! a block that is nowhere too deep.
-ghost use Rattle.std.specs.Prelude.{◌≡◌, IfOk};
-ghost use Rattle.yarn_blocks.specs.Outline.{verdict_in};
+ghost use Rattle.std.specs.Prelude.{◌≡◌, ◌+◌, ◌<◌, ◌^◌, length, IfOk};
+ghost use Rattle.yarn_blocks.specs.Outline.{verdict_in, verdict_behind};
 ghost use Rattle.yarn_blocks.specs.Verdict.{IsVerdictOf};
 
 use crate::mark::Mark;
@@ -39,17 +39,19 @@ pub fn judge(alloc: Global, marks: &[Mark]) -> Result<Verdict, Memory>
     ensures tells { IfOk result (IsVerdictOf marks.now) }
     ensures exact { IfOk result (λ verdict. verdict ≡ verdict_in marks.now) }
 {
-    judged(alloc, marks)
+    judged_behind(alloc, 0, marks)
 }
 
-fn judged(alloc: Global, marks: &[Mark]) -> Result<Verdict, Memory>
-    ensures { IfOk result (λ verdict. verdict ≡ verdict_in marks.now) }
+/// The verdict on the lines of one body that stand behind so many statements.
+pub(crate) fn judged_behind(alloc: Global, before: usize, marks: &[Mark]) -> Result<Verdict, Memory>
+    requires { before + length marks.now < 2 ^ 64 }
+    ensures { IfOk result (λ verdict. verdict ≡ verdict_behind before marks.now) }
 {
     let mut outline = Outline::new(alloc);
     for (at, mark) in marks.iter().enumerate() {
         match outline.take_next(*mark) {
             Ok(next) => outline = next,
-            Err(Stop::Refused) => return Ok(Verdict::Bad(at, mark.line)),
+            Err(Stop::Refused) => return Ok(Verdict::Bad(before + at, mark.line)),
             Err(Stop::Memory) => return Err(Memory),
         }
     }

@@ -3,7 +3,7 @@ use Rattle.yarn_blocks.proofs.FrameLemmas.{not_refused, built}
 use Rattle.yarn_blocks.proofs.body.build.Goals as goal
 
 pub unreachable-requires : goal.unreachable-requires
-unreachable-requires c = not_refused c.args.lines c.into_entries.result.items c.in-Err-Refused.field-0 c.into_entries.ensures c.in-Err-Refused.field-0-is c.in-Err-Refused.ensures c.requires
+unreachable-requires c = not_refused c.args.lines _ c.in-Err-Refused.field-0 c.into_parts-stmts.ensures c.in-Err-Refused.field-0-is c.in-Err-Refused.ensures c.requires
 
 pub returns-in-Ok : goal.returns-in-Ok
-returns-in-Ok c = built c.args.lines c.into_entries.result.items (stmts_of c.in-Ok.stmts) c.into_entries.ensures c.in-Ok.ensures
+returns-in-Ok c = built c.args.lines _ (stmts_of c.in-Ok.stmts) c.into_parts-stmts.ensures c.in-Ok.ensures
