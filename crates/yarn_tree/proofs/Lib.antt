@@ -29,4 +29,3 @@ pub mod PlaceLaws
 pub mod TitleLaws
 pub mod UsesLemmas
 pub mod VariableLemmas
-pub mod LeafLemmas

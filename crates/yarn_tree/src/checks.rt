@@ -1,6 +1,10 @@
 //! The refusals that are found in the lines of nodes: nodes, titles and ids.
 ghost use Rattle.std.specs.Prelude.{◌≡◌, ◌++◌, [], slice_get, IfOk, OnOk};
 ghost use Rattle.std.specs.List.{list_any};
+ghost use Rattle.std.specs.Option.{option_copied};
+ghost use Rattle.yarn_blocks.specs.BodyLine.{what_of};
+ghost use Rattle.yarn_blocks.specs.BodyLines.{leaf_of};
+ghost use Rattle.yarn_blocks.specs.declared.entry.What.TheVariants as what;
 ghost use Rattle.yarn_items.specs.Text.{is_id};
 ghost use Rattle.yarn_nodes.specs.Entries.{said_by};
 ghost use Rattle.yarn_tree.specs.Checks.{and_id, noted_in, extra_node, begun_at, titles_in, titles_seen, ids_in, ids_within, ids_of as all_ids, ids_seen, has_own, own_in, is_own, own_within, own_of};
@@ -10,7 +14,7 @@ ghost use Rattle.yarn_tree.specs.Places.{first_place};
 use crate::names::Seen;
 use std::alloc::Global;
 use yarn_base::{Memory, Place, Text};
-use yarn_blocks::{Entry, Simple, What};
+use yarn_blocks::{BodyLines, BodyWhat, LineText, Simple, Stmt, What};
 use yarn_nodes::{FileRead, NodeLines, Note, Titled};
 
 const MOST_NODES: usize = 65536;
@@ -119,14 +123,15 @@ fn has_own_within(nodes: &[NodeLines]) -> bool
 fn may_be_own(node: &NodeLines) -> bool
     ensures { result ≡ is_own node.now }
 {
-    node.body.len() > MOST_COUNTED || has_own_in(node.body.as_slice())
+    node.body.len() > MOST_COUNTED || has_own_in(&node.body)
 }
 
-fn has_own_in(body: &[Entry]) -> bool
+fn has_own_in(body: &BodyLines) -> bool
     ensures { result ≡ own_in body.now }
 {
-    for entry in body {
-        if is_named(&entry.what) {
+    let mut left = body.lines();
+    while let Some(found) = left.take_first() {
+        if is_named(found.what) {
             return true;
         }
     }
@@ -134,13 +139,41 @@ fn has_own_in(body: &[Entry]) -> bool
 }
 
 // Whether the line has a hashtag that is an id.
-fn is_named(what: &What) -> bool
-    ensures { result ≡ has_own (said_by what.now) }
+fn is_named(what: BodyWhat<'_>) -> bool
+    ensures { result ≡ has_own (said_by (what_of what.entry)) }
+{
+    match said_on(what) {
+        Some(text) => has_id_tag(text.tags.as_slice()),
+        None => false,
+    }
+}
+
+// What has an id: a line that is said and an option.
+fn said_on<'a>(what: BodyWhat<'a>) -> Option<&'a LineText>
+    ensures { option_copied result ≡ said_by (what_of what.entry) }
 {
     match what {
-        What::Statement(Simple::Line(text)) => has_id_tag(text.tags.as_slice()),
-        What::Offer(text, _) => has_id_tag(text.tags.as_slice()),
-        _ => false,
+        BodyWhat::Statement(stmt) => said_in_statement(stmt),
+        BodyWhat::Structure(what) => said_in(what),
+    }
+}
+
+fn said_in_statement(stmt: &Stmt) -> Option<&LineText>
+    ensures { option_copied result ≡ said_by (what.Statement (leaf_of stmt.now)) }
+{
+    match stmt {
+        Stmt::Line(text) => Some(text),
+        _ => None,
+    }
+}
+
+fn said_in(what: &What) -> Option<&LineText>
+    ensures { option_copied result ≡ said_by what.now }
+{
+    match what {
+        What::Statement(Simple::Line(text)) => Some(text),
+        What::Offer(text, _) => Some(text),
+        _ => None,
     }
 }
 
@@ -200,7 +233,7 @@ fn push_ids_within(
     ensures { OnOk result (ids.new.items ≡ ids.old.items ++ ids_within file nodes.now) }
 {
     for node in nodes {
-        push_ids_in(alloc, ids, file, node.body.as_slice())?;
+        push_ids_in(alloc, ids, file, &node.body)?;
     }
     Ok(())
 }
@@ -209,16 +242,17 @@ fn push_ids_in(
     alloc: Global,
     ids: &mut Vec<(Text, Place)>,
     file: u32,
-    body: &[Entry],
+    body: &BodyLines,
 ) -> Result<(), Memory>
     ensures { OnOk result (ids.new.items ≡ ids.old.items ++ ids_in file body.now) }
 {
-    for entry in body {
+    let mut left = body.lines();
+    while let Some(found) = left.take_first() {
         let place = Place {
             file,
-            line: entry.line,
+            line: found.line,
         };
-        push_id(alloc, ids, place, &entry.what)?;
+        push_id(alloc, ids, place, found.what)?;
     }
     Ok(())
 }
@@ -227,14 +261,12 @@ fn push_id(
     alloc: Global,
     ids: &mut Vec<(Text, Place)>,
     place: Place,
-    what: &What,
+    what: BodyWhat<'_>,
 ) -> Result<(), Memory>
-    ensures { OnOk result (ids.new.items ≡ ids.old.items ++ and_id (said_by what.now) place []) }
+    ensures { OnOk result (ids.new.items ≡ ids.old.items ++ and_id (said_by (what_of what.entry)) place []) }
 {
-    match what {
-        What::Statement(Simple::Line(text)) => ids.push((text.id.to_text(alloc)?, place))?,
-        What::Offer(text, _) => ids.push((text.id.to_text(alloc)?, place))?,
-        _ => {}
+    if let Some(text) = said_on(what) {
+        ids.push((text.id.to_text(alloc)?, place))?;
     }
     Ok(())
 }

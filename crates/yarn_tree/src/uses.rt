@@ -1,11 +1,13 @@
 //! What the lines of bodies use, collected in order of the text.
 ghost use Rattle.std.specs.Prelude.{◌≡◌, ◌∷◌, ◌++◌, [], map, IfOk, OnOk};
+ghost use Rattle.yarn_blocks.specs.BodyLine.{what_of};
+ghost use Rattle.yarn_blocks.specs.BodyLines.{leaf_of};
 ghost use Rattle.yarn_tree.specs.Uses.{uses_of, uses_of_all, uses_of_asked, uses_of_simple, uses_of_what, at_place, uses_in_body, uses_within, uses_in, use_of, use_at};
 
 use std::alloc::Global;
 use std::marker::Model;
 use yarn_base::{Memory, Place, Text};
-use yarn_blocks::{Entry, Simple, What};
+use yarn_blocks::{BodyLines, BodyWhat, Simple, Stmt, What};
 use yarn_expr::Expr;
 use yarn_nodes::{FileRead, NodeLines};
 
@@ -81,25 +83,54 @@ impl<'a> Uses<'a> {
         ensures { OnOk result (self.new ≡ self.old ++ uses_within file nodes.now) }
     {
         for node in nodes {
-            self.add_body(file, node.body.as_slice())?;
+            self.add_body(file, &node.body)?;
         }
         Ok(())
     }
 
-    fn add_body(&mut self, file: u32, body: &'a [Entry]) -> Result<(), Memory>
+    fn add_body(&mut self, file: u32, body: &'a BodyLines) -> Result<(), Memory>
         ensures { OnOk result (self.new ≡ self.old ++ uses_in_body file body.now) }
     {
-        for entry in body {
+        let mut left = body.lines();
+        while let Some(found) = left.take_first() {
             let place = Place {
                 file,
-                line: entry.line,
+                line: found.line,
             };
-            self.add_line(place, &entry.what)?;
+            self.add_line(place, found.what)?;
         }
         Ok(())
     }
 
-    fn add_line(&mut self, place: Place, what: &'a What) -> Result<(), Memory>
+    fn add_line(&mut self, place: Place, what: BodyWhat<'a>) -> Result<(), Memory>
+        ensures { OnOk result (self.new ≡ self.old ++ at_place place (uses_of_what (what_of what.entry))) }
+    {
+        match what {
+            BodyWhat::Statement(stmt) => self.add_stmt(place, stmt),
+            BodyWhat::Structure(what) => self.add_what(place, what),
+        }
+    }
+
+    // A statement that is one line.
+    fn add_stmt(&mut self, place: Place, stmt: &'a Stmt) -> Result<(), Memory>
+        ensures { OnOk result (self.new ≡ self.old ++ at_place place (uses_of_simple (leaf_of stmt.now))) }
+    {
+        match stmt {
+            Stmt::Line(text) => self.add_exprs(place, text.holes.as_slice()),
+            Stmt::Command(text) => self.add_exprs(place, text.holes.as_slice()),
+            Stmt::Set(_, name, _, expr) => {
+                self.add(place, Used::Variable(name))?;
+                self.add_expr(place, expr)
+            }
+            Stmt::Declare(_, name, _, _) => self.add(place, Used::Declaration(name)),
+            Stmt::Jump(_, title) => self.add(place, Used::Title(title)),
+            Stmt::JumpTo(_, expr) => self.add_expr(place, expr),
+            Stmt::Call(_, expr) => self.add_expr(place, expr),
+            Stmt::Stop(_) | Stmt::Options(_) | Stmt::If(..) => Ok(()),
+        }
+    }
+
+    fn add_what(&mut self, place: Place, what: &'a What) -> Result<(), Memory>
         ensures { OnOk result (self.new ≡ self.old ++ at_place place (uses_of_what what.now)) }
     {
         match what {

@@ -1,7 +1,7 @@
 use Rattle.std.proofs.Common.{ap}
 use Rattle.yarn_tree.specs.Uses.{uses_of_all, uses_of_asked, uses_of_what}
 use Rattle.yarn_tree.proofs.UsesLemmas.{parts-ok}
-use Rattle.yarn_tree.proofs.uses.Uses.add_line.Goals as goal
+use Rattle.yarn_tree.proofs.uses.Uses.add_what.Goals as goal
 
 pub returns-in_ok-add_exprs-in-Offer : goal.returns-in_ok-add_exprs-in-Offer
 returns-in_ok-add_exprs-in-Offer c =
