@@ -74,7 +74,8 @@ impl Reader {
             line: number,
             indent,
         };
-        self.draft.take_line(alloc, self.ids, spot, said_plain(alloc, text))
+        self.draft
+            .take_line(alloc, self.ids, spot, said_plain(alloc, text))
     }
 
     // Any line.
