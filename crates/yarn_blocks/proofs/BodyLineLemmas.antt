@@ -30,13 +30,14 @@ leaves-end (t ∷ ss) s all one =
     let both = and_parts (is_leaf t) (list_all is_leaf ss) all in
     rw (both.0, leaves-end ss s both.1 one) refl
 
+-- one more statement with its place
 pub lines_more : (ss : List Stmt) (ps : List Spot) (s : Stmt) (p : Spot) → AreLines ss ps → is_leaf s ≡ true → AreLines (ss ++ s ∷ []) (ps ++ p ∷ [])
 lines_more ss ps s p are one = record {
   as_many = omega (arith, are.as_many, length-append ss (s ∷ []), length-append ps (p ∷ []));
   leaves = leaves-end ss s are.leaves one;
 }
 
--- one that stands behind them
+-- where nothing is open, no line is too little deep
 no-test : (i : ℕ) → nat_lt i 0 ≡ false
 no-test i = grind (arith, nat_tests)
 
@@ -65,7 +66,7 @@ lines-go (s ∷ ss) (p ∷ ps) b rest e all =
     ∙ lines-go ss ps (stmts_then b (Cons (stmt_of s) Nil)) rest (omega arith) both.1
     ∙ ap (λ d. go (behind d) rest) (stmts-assoc b (Cons (stmt_of s) Nil) (stmts_of ss))
 
--- the lines are read as those behind the statements are
+-- the statements in front are read as they stand
 pub lines_read : (ss : List Stmt) (ps : List Spot) (rest : List Entry) → AreLines ss ps → read (entries_at ss ps ++ rest) ≡ read_behind (stmts_of ss) rest
 lines_read ss ps rest are = ap (option_and_then finish) (lines-go ss ps Nil rest are.as_many are.leaves)
 
@@ -76,7 +77,7 @@ lines-verdict (s ∷ ss) [] before rest e = absurd (omega arith)
 lines-verdict (s ∷ ss) (p ∷ ps) before rest e =
     rw (no-test p.indent) (lines-verdict ss ps (before + 1) rest (omega arith) ∙ ap (λ n. verdict_behind n (marks_of rest)) (omega arith))
 
--- statements in front tell nothing
+-- statements in front tell nothing but their count
 pub lines_judged : (ss : List Stmt) (ps : List Spot) (rest : List Entry) → AreLines ss ps → verdict_in (marks_of (entries_at ss ps ++ rest)) ≡ verdict_behind (length ss) (marks_of rest)
 lines_judged ss ps rest are = lines-verdict ss ps 0 rest are.as_many ∙ ap (λ n. verdict_behind n (marks_of rest)) (omega arith)
 
@@ -85,6 +86,7 @@ lines_length [] ps rest e = omega arith
 lines_length (s ∷ ss) [] rest e = absurd (omega arith)
 lines_length (s ∷ ss) (p ∷ ps) rest e = omega (arith, lines_length ss ps rest (omega arith))
 
+-- one more line behind the statements
 pub rest_more : (a : List Entry) (rest new : List Entry) (x : Entry) → new ≡ rest ++ x ∷ [] → a ++ new ≡ (a ++ rest) ++ x ∷ []
 rest_more a rest new x e = ap (λ l. a ++ l) e ∙ sym (append_assoc a rest (x ∷ []))
 
