@@ -4,3 +4,4 @@ pub mod PieceLemmas
 pub mod Utf8Lemmas
 pub mod LfLemmas
 pub mod CutLemmas
+pub mod MarkLemmas

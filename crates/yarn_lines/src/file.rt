@@ -1,5 +1,5 @@
 //! The lines of a whole file: first whether it is UTF-8, then one pass over its lines.
-ghost use Rattle.std.specs.Prelude.{◌≡◌, ◌+◌, ◌≤◌, ◌<◌, ◌∷◌, length, drop, IsUtf8, Some};
+ghost use Rattle.std.specs.Prelude.{◌≡◌, ◌+◌, ◌≤◌, ◌<◌, ◌∷◌, length, drop, IsUtf8, Some, string_bytes};
 ghost use Rattle.std.specs.Str.{is_utf8};
 ghost use Rattle.yarn_lines.specs.Lines.{mark_length, pieces_of, first_from};
 ghost use Rattle.yarn_lines.specs.Fault.{Splits, SplitsText, is_bad};
@@ -22,11 +22,20 @@ pub fn split(alloc: Global, bytes: &List<u8>) -> Result<Lines, LineFault>
     requires { length bytes.now ≤ 1073741824 }
     ensures { Splits bytes.now result }
 {
-    let bytes = bytes.as_slice();
-    let body = past_mark(bytes);
-    match str::from_utf8(body) {
-        Ok(text) => split_text(alloc, text, bytes.len() - body.len()),
-        Err(_) => Err(LineFault::BadUtf8(first_bad_line(body))),
+    split_own(alloc, bytes.copy()?)
+}
+
+/// The same of bytes that are given away: the texts of the lines are parts of them.
+pub fn split_own(alloc: Global, bytes: List<u8>) -> Result<Lines, LineFault>
+    requires { length bytes ≤ 1073741824 }
+    ensures { Splits bytes result }
+{
+    match String::from_utf8(bytes.into_vec()) {
+        Ok(text) => split_string(alloc, text),
+        Err(error) => {
+            let bytes = error.into_bytes();
+            Err(LineFault::BadUtf8(first_bad_line(past_mark(bytes.as_slice()))))
+        }
     }
 }
 
@@ -63,29 +72,48 @@ fn is_text(bytes: &[u8]) -> bool
     str::from_utf8(bytes).is_ok()
 }
 
-// The lines of a text that stands at that place of its file. Their texts share one copy of it.
-fn split_text(alloc: Global, text: &str, start: usize) -> Result<Lines, LineFault>
-    requires { start + length text.now ≤ 1073741824 }
-    ensures { SplitsText start text.now result }
+// The lines of a file that is a text.
+fn split_string(alloc: Global, text: String) -> Result<Lines, LineFault>
+    requires { length (string_bytes text) ≤ 1073741824 }
+    ensures { Splits (string_bytes text) result }
 {
-    let whole = WholeText::from_str(alloc, text)?;
-    split_whole(alloc, &whole, start)
+    match WholeText::from_string(alloc, text) {
+        Ok(whole) => split_whole(alloc, &whole),
+        Err(_) => Err(LineFault::Memory),
+    }
 }
 
-fn split_whole(alloc: Global, whole: &WholeText, start: usize) -> Result<Lines, LineFault>
-    requires { start + length whole.now ≤ 1073741824 }
-    ensures { SplitsText start whole.now result }
+fn split_whole(alloc: Global, whole: &WholeText) -> Result<Lines, LineFault>
+    requires { length whole.now ≤ 1073741824 }
+    ensures { Splits whole.now result }
+{
+    let text = whole.as_str();
+    let start = text.len() - past_mark(text.as_bytes()).len();
+    split_body(alloc, whole, &text[start..], start)
+}
+
+// The lines of what stands behind that place of the whole.
+fn split_body(
+    alloc: Global,
+    whole: &WholeText,
+    body: &str,
+    start: usize,
+) -> Result<Lines, LineFault>
+    requires within { start + length body.now ≤ length whole.now }
+    requires small { length whole.now ≤ 1073741824 }
+    requires behind { body.now ≡ drop start whole.now }
+    ensures { SplitsText start body.now result }
 {
     let mut lines = List::new(alloc);
     let mut number = 1;
     let mut at = start;
-    let mut rest = whole.as_str();
+    let mut rest = body;
     while !rest.is_empty() {
         let (piece, after) = first_line(rest);
         if piece.len() > LONGEST_LINE {
             return Err(LineFault::LineTooLong(number));
         }
-        push_line(&mut lines, whole, piece, number, start, at)?;
+        push_line(&mut lines, whole, piece, number, at)?;
         number += 1;
         at += piece.len() + 1;
         rest = after;

@@ -1,5 +1,5 @@
 //! One line, and why a file has no lines.
-ghost use Rattle.std.specs.Prelude.{◌≡◌, ◌+◌, ◌-◌, ◌≤◌, ◌++◌, length, OnOk, IfOk};
+ghost use Rattle.std.specs.Prelude.{◌≡◌, ◌+◌, ◌≤◌, ◌++◌, length, OnOk, IfOk};
 ghost use Rattle.yarn_base.specs.Part.{cut};
 ghost use Rattle.yarn_lines.specs.Lines.{width, counts};
 ghost use Rattle.yarn_lines.specs.Piece.{line_of};
@@ -50,19 +50,17 @@ impl From<Memory> for LineFault {
     }
 }
 
-/// Puts the line of a piece behind the lines, where it counts. The whole stands at `start` in its file, and the piece of
-/// it at `at`.
+/// Puts the line of a piece, which stands at that place of the whole, behind the lines, where it counts.
 pub(crate) fn push_line(
     lines: &mut List<RawLine>,
     whole: &WholeText,
     piece: &str,
     number: u32,
-    start: usize,
     at: usize,
 ) -> Result<(), Memory>
     requires short { length piece.now ≤ 65536 }
-    requires place { (start ≤ at) × (at + length piece.now ≤ start + length whole.now) × (start + length whole.now ≤ 1073741824) }
-    requires cut { piece.now ≡ cut (at - start) (length piece.now) whole.now }
+    requires place { (at + length piece.now ≤ length whole.now) × (length whole.now ≤ 1073741824) }
+    requires cut { piece.now ≡ cut at (length piece.now) whole.now }
     ensures { OnOk result (lines.new ≡ lines.old ++ line_of number at piece.now) }
 {
     let content = content_in(piece.as_bytes());
@@ -75,7 +73,7 @@ pub(crate) fn push_line(
         number,
         indent: width_in(&content[..front]),
         at: at + front,
-        text: part_of(whole, at - start + front, text)?,
+        text: part_of(whole, at + front, text)?,
     };
     lines.push(line).map_err(|_| Memory)?;
     Ok(())
