@@ -8,11 +8,11 @@ use std::alloc::Global;
 use yarn_base::{List, SourceFile};
 use yarn_tree::{Project, ProjectFault, read_project};
 
-/// Reads the sources, and lets them go. The game has no functions.
+/// Reads the sources. The game has no functions.
 #[tactic(auto, using(crate::proofs::TreeLemmas::trees_answer))]
 pub(crate) fn project_of(alloc: Global, sources: List<SourceFile>) -> Result<Project, ProjectFault>
     ensures { IsTreeAnswer (trees_of (reading_of [] sources)) result }
 {
     let signatures = List::new(alloc);
-    read_project(alloc, &sources, &signatures)
+    read_project(alloc, sources, &signatures)
 }

@@ -1,5 +1,5 @@
 -- One file after the other, cut into lines.
-use Rattle.std.proofs.Common.{◌≡◌, ◌<◌, ℕ, ◌+◌, List, [], ◌∷◌, ◌++◌, length, drop, get_or, Option, Some, None, refl, sym, ap, ◌∙◌, subst, append_assoc, add-one, drop-cons}
+use Rattle.std.proofs.Common.{◌≡◌, ℕ, ◌+◌, List, [], ◌∷◌, ◌++◌, Option, Some, None, refl, sym, ap, ◌∙◌, subst, append_assoc}
 use Rattle.yarn_base.specs.declared.Place.{Place}
 use Rattle.yarn_base.specs.declared.SourceFile.{SourceFile}
 use Rattle.yarn_lines.specs.declared.line.Lines.{Lines}
@@ -18,7 +18,7 @@ abbrev told : Option Place → Option Place → List SplitFile → Reading (List
 told bad long splits = unless BadUtf8 bad (unless LineTooLong long (Reads splits))
 
 pub put-on : (splitter : Splitter) (source : SourceFile) (lines : Lines) → bad_in source ≡ None → long_in source ≡ None → lines ≡ lines_of source.bytes →
-    (sources : List SourceFile) → splits_on splitter (source ∷ sources) ≡ splits_on (split_put splitter source lines) sources
+    (sources : List SourceFile) → splits_on splitter (source ∷ sources) ≡ splits_on (split_put splitter source.name lines) sources
 put-on splitter source lines good short is sources =
     let n = splitter.number in
     ap (λ (o : Option ℕ). told (or_later (at_file n o) (first_line bad_in (n + 1) sources)) (or_later splitter.long (first_line long_in n (source ∷ sources)))
@@ -54,9 +54,8 @@ bad-on splitter source line bad sources =
     (splitter.splits ++ splits_from n (source ∷ sources))) bad
 
 -- a fault at the next of the files is the fault of all
-pub fault-first : (all : List SourceFile) (splitter : Splitter) (i : ℕ) (source : SourceFile) (fault : ProjectFault) → i < length all → source ≡ get_or all i source →
-    splits_on splitter (drop i all) ≡ sources_split all →
+pub fault-first : (all left rest : List SourceFile) (splitter : Splitter) (source : SourceFile) (fault : ProjectFault) → left ≡ source ∷ rest →
+    splits_on splitter left ≡ sources_split all →
     ((sources : List SourceFile) → IsFault (splits_on splitter (source ∷ sources)) fault) → IsFault (sources_split all) fault
-fault-first all splitter i source fault lt is so_far at =
-    let cut : drop i all ≡ source ∷ drop (i + 1) all = rw (add-one, drop-cons all i source, ← is) refl in
-    subst (λ (r : Reading (List SplitFile)). IsFault r fault) (sym (ap (splits_on splitter) cut) ∙ so_far) (at (drop (i + 1) all))
+fault-first all left rest splitter source fault cut so_far at =
+    subst (λ (r : Reading (List SplitFile)). IsFault r fault) (sym (ap (splits_on splitter) cut) ∙ so_far) (at rest)

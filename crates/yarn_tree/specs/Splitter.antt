@@ -19,10 +19,10 @@ splits_on splitter sources =
     (unless LineTooLong (or_later splitter.long (first_line long_in splitter.number sources))
     (Reads (splitter.splits ++ splits_from splitter.number sources)))
 
-abbrev pub split_put : Splitter → SourceFile → Lines → Splitter
-split_put splitter source lines = record {
+abbrev pub split_put : Splitter → List ℕ → Lines → Splitter
+split_put splitter name lines = record {
   number = splitter.number + 1;
-  splits = splitter.splits ++ record { number = splitter.number; name = source.name; lines = lines } ∷ [];
+  splits = splitter.splits ++ record { number = splitter.number; name = name; lines = lines } ∷ [];
   long = splitter.long;
 }
 

@@ -16,28 +16,27 @@ use yarn_nodes::{FileRead, read_lines};
 use yarn_value::{Signature, Signatures};
 
 /// The trees of the files, or the first fault of the project (docs/language.md, Refusals of a project). Functions are the
-/// builtins and those of the signatures.
+/// builtins and those of the signatures. The files are given away: the texts of the trees are parts of their bytes.
 pub fn read_project(
     alloc: Global,
-    files: &List<SourceFile>,
+    files: List<SourceFile>,
     signatures: &Signatures,
 ) -> Result<Project, ProjectFault>
-    ensures { IsProjectRead (reading_of signatures.now files.now) result }
+    ensures { IsProjectRead (reading_of signatures.now files) result }
 {
-    let sources = files.as_slice();
-    match too_much_in(sources) {
+    match too_much_in(files.as_slice()) {
         Some(place) => Err(refused(RefusalKind::TooMuch, place)),
-        None => read_sources(alloc, sources, signatures.as_slice()),
+        None => read_sources(alloc, files.into_vec(), signatures.as_slice()),
     }
 }
 
 fn read_sources(
     alloc: Global,
-    sources: &[SourceFile],
+    sources: Vec<SourceFile>,
     signatures: &[Signature],
 ) -> Result<Project, ProjectFault>
-    requires { too_much 0 0 sources.now ≡ None }
-    ensures { IsProjectRead (reading_of signatures.now sources.now) result }
+    requires { too_much 0 0 sources.items ≡ None }
+    ensures { IsProjectRead (reading_of signatures.now sources.items) result }
 {
     match split_all(alloc, sources) {
         Ok(splits) => finish_project(alloc, splits, signatures),

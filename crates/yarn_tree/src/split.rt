@@ -8,8 +8,8 @@ use crate::order::refused;
 use crate::stages::SplitFile;
 use crate::{ProjectFault, RefusalKind};
 use std::alloc::Global;
-use yarn_base::{List as Items, Place, SourceFile};
-use yarn_lines::{LineFault, Lines, split};
+use yarn_base::{List as Items, Place, SourceFile, Text};
+use yarn_lines::{LineFault, Lines, split, split_own};
 
 #[derive(Drop)]
 pub(crate) struct Splitter {
@@ -31,16 +31,17 @@ impl Splitter {
         }
     }
 
-    fn take(&mut self, alloc: Global, source: &SourceFile) -> Result<(), ProjectFault>
+    fn take(&mut self, alloc: Global, source: SourceFile) -> Result<(), ProjectFault>
         requires few { self.old.number < 256 }
-        requires small { IsSmall source.now }
+        requires small { IsSmall source }
         ensures on { MatchResult result
-            (λ _. (sources : List SourceOf) → splits_on self.old (source.now ∷ sources) ≡ splits_on self.new sources)
-            (λ fault. (sources : List SourceOf) → IsFault (splits_on self.old (source.now ∷ sources)) fault) }
+            (λ _. (sources : List SourceOf) → splits_on self.old (source ∷ sources) ≡ splits_on self.new sources)
+            (λ fault. (sources : List SourceOf) → IsFault (splits_on self.old (source ∷ sources)) fault) }
         ensures number { OnOk result (self.new.number ≡ self.old.number + 1) }
     {
-        match split(alloc, &source.bytes) {
-            Ok(lines) => self.put(source, lines),
+        let SourceFile { name, bytes } = source;
+        match split_own(alloc, bytes) {
+            Ok(lines) => self.put(name, lines),
             Err(LineFault::BadUtf8(line)) => Err(refused(
                 RefusalKind::BadUtf8,
                 Place {
@@ -56,12 +57,16 @@ impl Splitter {
         }
     }
 
-    fn put(&mut self, source: &SourceFile, lines: Lines) -> Result<(), ProjectFault>
+    fn put(&mut self, name: Text, lines: Lines) -> Result<(), ProjectFault>
         requires { self.old.number < 256 }
-        ensures ok { OnOk result (self.new ≡ split_put self.old source.now lines) }
+        ensures ok { OnOk result (self.new ≡ split_put self.old name lines) }
         ensures err { IfErr result (λ fault. fault ≡ ProjectFault.Memory) }
     {
-        let split = named(self.number, source, lines)?;
+        let split = SplitFile {
+            number: self.number,
+            name,
+            lines,
+        };
         self.splits.push(split).map_err(|_| ProjectFault::Memory)?;
         self.number += 1;
         Ok(())
@@ -90,27 +95,13 @@ impl Splitter {
     }
 }
 
-fn named(number: u32, source: &SourceFile, lines: Lines) -> Result<SplitFile, ProjectFault>
-    ensures ok { IfOk result (λ split. split ≡ record { number = number; name = source.now.name; lines = lines }) }
-    ensures err { IfErr result (λ fault. fault ≡ ProjectFault.Memory) }
-{
-    match source.name.copy() {
-        Ok(name) => Ok(SplitFile {
-            number,
-            name,
-            lines,
-        }),
-        Err(_) => Err(ProjectFault::Memory),
-    }
-}
-
 /// The files of a project, cut into lines.
 pub(crate) fn split_all(
     alloc: Global,
-    sources: &[SourceFile],
+    sources: Vec<SourceFile>,
 ) -> Result<Items<SplitFile>, ProjectFault>
-    requires { AreFine sources.now }
-    ensures { Answers (sources_split sources.now) result }
+    requires { AreFine sources.items }
+    ensures { Answers (sources_split sources.items) result }
 {
     let mut splitter = Splitter::new(alloc);
     for source in sources {
@@ -127,7 +118,7 @@ pub(crate) fn split_alone(alloc: Global, source: &SourceFile) -> Result<SplitFil
     ensures { Answers (source_split source.now) result }
 {
     match split(alloc, &source.bytes) {
-        Ok(lines) => named(0, source, lines),
+        Ok(lines) => named(source, lines),
         Err(LineFault::BadUtf8(line)) => Err(refused(
             RefusalKind::BadUtf8,
             Place { file: 0, line },
@@ -137,5 +128,19 @@ pub(crate) fn split_alone(alloc: Global, source: &SourceFile) -> Result<SplitFil
             Place { file: 0, line },
         )),
         Err(LineFault::Memory) => Err(ProjectFault::Memory),
+    }
+}
+
+fn named(source: &SourceFile, lines: Lines) -> Result<SplitFile, ProjectFault>
+    ensures ok { IfOk result (λ split. split ≡ record { number = 0; name = source.now.name; lines = lines }) }
+    ensures err { IfErr result (λ fault. fault ≡ ProjectFault.Memory) }
+{
+    match source.name.copy() {
+        Ok(name) => Ok(SplitFile {
+            number: 0,
+            name,
+            lines,
+        }),
+        Err(_) => Err(ProjectFault::Memory),
     }
 }
