@@ -1,10 +1,11 @@
 -- One file after the other, cut into lines.
-use Rattle.std.proofs.Common.{◌≡◌, ℕ, ◌+◌, List, [], ◌∷◌, ◌++◌, Option, Some, None, refl, sym, ap, ◌∙◌, subst, append_assoc}
+use Rattle.std.proofs.Common.{◌≡◌, ℕ, ◌+◌, List, [], ◌∷◌, ◌++◌, Option, Some, None, Result, Ok, Err, OnOk, IfErr, MatchResult, refl, sym, ap, ◌∙◌, subst, append_assoc}
 use Rattle.yarn_base.specs.declared.Place.{Place}
 use Rattle.yarn_base.specs.declared.SourceFile.{SourceFile}
 use Rattle.yarn_lines.specs.declared.line.Lines.{Lines}
 use Rattle.yarn_lines.specs.Lines.{lines_of}
 use Rattle.yarn_tree.specs.declared.refusal.ProjectFault.{ProjectFault}
+use Rattle.yarn_tree.specs.declared.refusal.ProjectFault.TheVariants.{Memory}
 use Rattle.yarn_tree.specs.declared.refusal.RefusalKind.TheVariants.{BadUtf8, LineTooLong}
 use Rattle.yarn_tree.specs.declared.split.Splitter.{Splitter}
 use Rattle.yarn_tree.specs.declared.stages.SplitFile.{SplitFile}
@@ -59,3 +60,14 @@ pub fault-first : (all left rest : List SourceFile) (splitter : Splitter) (sourc
     ((sources : List SourceFile) → IsFault (splits_on splitter (source ∷ sources)) fault) → IsFault (sources_split all) fault
 fault-first all left rest splitter source fault cut so_far at =
     subst (λ (r : Reading (List SplitFile)). IsFault r fault) (sym (ap (splits_on splitter) cut) ∙ so_far) (at rest)
+
+-- what is told where the lines of a file are put behind the others
+pub put-told : {U : Type 0} (result : Result U ProjectFault) (splitter next : Splitter) (source : SourceFile) (lines : Lines) →
+    OnOk result (next ≡ split_put splitter source.name lines) → IfErr result (λ fault. fault ≡ Memory) →
+    bad_in source ≡ None → long_in source ≡ None → lines ≡ lines_of source.bytes →
+    MatchResult result (λ _. (sources : List SourceFile) → splits_on splitter (source ∷ sources) ≡ splits_on next sources)
+    (λ fault. (sources : List SourceFile) → IsFault (splits_on splitter (source ∷ sources)) fault)
+put-told (Ok u) splitter next source lines ok err good short is =
+    λ sources. put-on splitter source lines good short is sources ∙ ap (λ (s : Splitter). splits_on s sources) (sym ok)
+put-told (Err fault) splitter next source lines ok err good short is =
+    λ sources. subst (λ (f : ProjectFault). IsFault (splits_on splitter (source ∷ sources)) f) (sym err) tt
