@@ -2,7 +2,6 @@
 ghost use Rattle.std.specs.Prelude.{◌≡◌, ◌+◌, ◌≤◌, length, IfOk, IfErr, IsUtf8, string_bytes};
 ghost use Rattle.yarn_base.specs.Part.{cut};
 
-use crate::part::Part;
 use crate::{Memory, Text};
 use std::alloc::Global;
 use std::marker::Model;
@@ -55,6 +54,6 @@ impl WholeText {
         requires utf8 { IsUtf8 (cut from len self.now) }
         ensures { IfOk result (λ part. part ≡ cut from len self.now) }
     {
-        Ok(Text::shared(Part::new(&self.inner, from, len)?))
+        Ok(Text::part(&self.inner, from, len)?)
     }
 }

@@ -72,5 +72,5 @@ fn placed_text(alloc: Global, title: &str, before: u64) -> Result<Text, Memory>
 {
     let mut id = String::with_capacity(alloc, title.len().saturating_add(12))?;
     write!(id, "line:{title}-{before}")?;
-    Ok(Text::from_string(id))
+    Text::from_string(id).map_err(|_| Memory)
 }

@@ -98,7 +98,7 @@ fn shown(alloc: Global, command: &Command) -> Result<String, AllocError> {
         CommandKind::Format => String::from_str(alloc, "format")?,
     };
     for name in ["start", "limit", "vars", "save-vars"] {
-        let name = Text::from_string(String::from_str(alloc, name)?);
+        let name = Text::from_str(alloc, name).map_err(|_| AllocError)?;
         if let Some(value) = command.pair(&name) {
             text.push_str(" --")?;
             text.push_str(name.as_str())?;

@@ -45,7 +45,10 @@ pub(crate) fn read_pieces(
                 }
                 None => return Ok(None),
             },
-            First::Ends => return Ok(Some(reading.into_read(rest))),
+            First::Ends => {
+                let read = reading.into_read(rest)?;
+                return Ok(Some(read));
+            }
             First::Broken => return Ok(None),
         }
     }
@@ -86,18 +89,19 @@ impl Reading {
         push_expr(&mut self.holes, part.expr)
     }
 
-    fn into_read(self, rest: &[u8]) -> TextRead<'_>
-        ensures text { result.text ≡ string_bytes self.text }
-        ensures holes { result.holes ≡ self.holes }
-        ensures literals { result.literals ≡ self.literals }
-        ensures rest { result.rest.now ≡ rest.now }
+    fn into_read(self, rest: &[u8]) -> Result<TextRead<'_>, Memory>
+        ensures text { IfOk result (λ read. read.text ≡ string_bytes self.text) }
+        ensures holes { IfOk result (λ read. read.holes ≡ self.holes) }
+        ensures literals { IfOk result (λ read. read.literals ≡ self.literals) }
+        ensures rest { IfOk result (λ read. read.rest.now ≡ rest.now) }
     {
-        TextRead {
-            text: Text::from_string(self.text),
+        let text = Text::from_string(self.text).map_err(|_| Memory)?;
+        Ok(TextRead {
+            text,
             holes: self.holes,
             literals: self.literals,
             rest,
-        }
+        })
     }
 }
 

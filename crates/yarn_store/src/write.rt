@@ -52,5 +52,5 @@ fn decimal(alloc: Global, number: i64) -> Result<Text, Memory>
     ensures text { IfOk result (λ text. text ≡ signed_decimal number) }
     ensures ranged { fits number ≡ true }
 {
-    Ok(Text::from_string(format!(in alloc; "{number}")?))
+    Text::from_string(format!(in alloc; "{number}")?).map_err(|_| Memory)
 }
