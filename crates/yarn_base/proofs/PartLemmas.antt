@@ -1,5 +1,5 @@
 -- A text that is all of its string.
-use Rattle.std.proofs.Common.{◌≡◌, ℕ, ◌+◌, ◌≤◌, List, length, take, sym, ap, ◌∙◌, subst, arith, IsUtf8}
+use Rattle.std.proofs.Common.{◌≡◌, ℕ, ◌+◌, ◌≤◌, List, length, sym, subst, arith, IsUtf8}
 use Rattle.std.proofs.Math.Seq.{take-length}
 use Rattle.yarn_base.specs.Part.{cut}
 

@@ -1,4 +1,4 @@
-use Rattle.std.proofs.Common.{◌≡◌, ◌+◌, ◌++◌, ◌∙◌, sym, ap, length, string_bytes, arith}
+use Rattle.std.proofs.Common.{◌≡◌, ◌++◌, ◌∙◌, ap, length, string_bytes, arith}
 use Rattle.std.specs.String.{string_len}
 use Rattle.std.proofs.lemmas.List.{length-append}
 use Rattle.yarn_base.proofs.text.push_to_own.Goals as goal

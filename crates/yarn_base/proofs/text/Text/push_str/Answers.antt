@@ -1,4 +1,4 @@
-use Rattle.std.proofs.Common.{true, subst, Ok}
+use Rattle.std.proofs.Common.{subst, Ok}
 use Rattle.std.specs.Prelude.{string_bytes}
 use Rattle.std.proofs.lemmas.Str.{IsUtf8-string_bytes}
 use Rattle.yarn_base.specs.Part.{Pushes}
