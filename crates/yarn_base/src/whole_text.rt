@@ -23,13 +23,6 @@ impl Model for WholeText {
 }
 
 impl WholeText {
-    /// A copy of this text.
-    pub fn from_str(alloc: Global, text: &str) -> Result<WholeText, Memory>
-        ensures { IfOk result (λ w. w ≡ text.now) }
-    {
-        WholeText::from_string(alloc, String::from_str(alloc, text)?).map_err(|_| Memory)
-    }
-
     /// Keeps the bytes of this string. An `Err` hands it back, for want of memory.
     pub fn from_string(alloc: Global, text: String) -> Result<WholeText, String>
         ensures ok { IfOk result (λ w. w ≡ string_bytes text) }
