@@ -1,5 +1,6 @@
 //! The lines of a body while no tree is made of them.
 ghost use Rattle.std.specs.Prelude.{◌≡◌, ◌++◌, ◌∷◌, [], length, IfOk, OnOk, OnErr, is_ok, if◌then◌else◌};
+ghost use Rattle.yarn_blocks.specs.declared.entry.Simple.TheVariants as simple;
 ghost use Rattle.yarn_blocks.specs.declared.entry.What.TheVariants as what;
 ghost use Rattle.yarn_blocks.specs.BodyLine.{TakesFirst};
 ghost use Rattle.yarn_blocks.specs.Building.{read_behind};
@@ -11,7 +12,7 @@ ghost use Rattle.yarn_blocks.specs.View.{stmts_of};
 use crate::body_line::{BodyLine, BodyWhat, Spot};
 use crate::entry::{Entry, Simple, What, marks};
 use crate::reading::leaf;
-use crate::tree::Stmt;
+use crate::tree::{LineText, Stmt};
 use crate::verdict::{Verdict, judged_behind};
 use std::alloc::Global;
 use std::marker::Model;
@@ -118,6 +119,20 @@ impl BodyLines {
         }
         let spot = Spot { line, indent };
         put(&mut self.stmts, &mut self.spots, leaf(statement), spot)?;
+        Ok(())
+    }
+
+    /// Puts a line that is said last, as most are.
+    #[tactic(auto, using(crate::proofs::BodyLineLemmas::lines_more))]
+    pub fn push_line(&mut self, line: u32, indent: u32, text: LineText) -> Result<(), Memory>
+        ensures { OnOk result (self.new ≡ self.old ++ (record { line = line; indent = indent; what = what.Statement (simple.Line text) }) ∷ []) }
+    {
+        if !self.rest.is_empty() {
+            let what = What::Statement(Simple::Line(text));
+            return self.push_rest(Entry { line, indent, what });
+        }
+        let spot = Spot { line, indent };
+        put(&mut self.stmts, &mut self.spots, Stmt::Line(text), spot)?;
         Ok(())
     }
 

@@ -1,7 +1,7 @@
 //! What the lines of a body are to the structure.
 //!
-//! The pass goes over marks alone and keeps what is open, so that no tree is made of a body before it is known to be
-//! a block that is nowhere too deep.
+//! The pass goes over marks alone and keeps what is open, so that no statement of several lines is made of a body before
+//! it is known to be a block that is nowhere too deep.
 ghost use Rattle.std.specs.Prelude.{◌≡◌, ◌+◌, ◌<◌, ◌^◌, length, IfOk};
 ghost use Rattle.yarn_blocks.specs.Outline.{verdict_in, verdict_behind};
 ghost use Rattle.yarn_blocks.specs.Verdict.{IsVerdictOf};
