@@ -120,16 +120,3 @@ leading-take (b ∷ bytes) = by_test (leading-take bytes) (is_blank b) refl
         take (length (leading (b ∷ bytes))) (b ∷ bytes) ≡ leading (b ∷ bytes)
     by_test later true t = rw (t, later) refl
     by_test later false t = rw t refl
-
-pub line_of-none : (lines : List RawLine) (number at : ℕ) (piece text : List ℕ) → text ≡ text_of piece → counts text ≡ false →
-    lines ≡ lines ++ line_of number at piece
-line_of-none lines number at piece text is none =
-    let skipped : counts (text_of piece) ≡ false = ap counts (sym is) ∙ none in
-    rw skipped (sym (append-nil lines))
-
-pub line_of-some : (number at indent place : ℕ) (piece text : List ℕ) → text ≡ text_of piece → counts text ≡ true →
-    indent ≡ indent_of piece → place ≡ at + length (leading (content piece)) →
-    record { number = number; indent = indent; at = place; text = text } ∷ [] ≡ line_of number at piece
-line_of-some number at indent place piece text is some indent_is place_is =
-    let kept : counts (text_of piece) ≡ true = ap counts (sym is) ∙ some in
-    rw (kept, is, indent_is, place_is) refl

@@ -19,24 +19,6 @@ pub fn first_piece(bytes: &[u8]) -> (&[u8], &[u8])
     }
 }
 
-/// The first line of a text without its LF, and what stands behind the LF.
-pub(crate) fn first_line(text: &str) -> (&str, &str)
-    requires { 0 < length text.now }
-    ensures pieces { pieces_of text.now ≡ result.0.now ∷ pieces_of result.1.now }
-    ensures shorter { length result.1.now < length text.now }
-    ensures within { length result.0.now + length result.1.now ≤ length text.now }
-    ensures front { result.0.now ≡ take (length result.0.now) text.now }
-    ensures back { result.1.now ≡ drop (length result.0.now + 1) text.now }
-    ensures utf8 { IsUtf8 result.0.now × IsUtf8 result.1.now }
-{
-    let end = first_lf(text.as_bytes());
-    if end < text.len() {
-        (&text[..end], &text[end + 1..])
-    } else {
-        (text, "")
-    }
-}
-
 // The place of the first LF, and of the end where there is none.
 #[tactic(auto, using(crate::proofs::LfLemmas::lfs))]
 fn first_lf(bytes: &[u8]) -> usize
