@@ -5,7 +5,7 @@ ghost use Rattle.yarn_lines.specs.Lines.{width, counts, lines_from, pieces_of};
 ghost use Rattle.yarn_lines.specs.Piece.{line_of};
 ghost use Rattle.yarn_lines.specs.Taking.{AreLeft, Takes};
 
-use crate::piece::{content_in, first_piece, leading_length};
+use crate::piece::{content_in, leading_length, piece_at};
 use std::marker::Model;
 use yarn_base::{Memory, Text, WholeText};
 
@@ -69,8 +69,7 @@ impl RawLines {
         ensures { Takes self.old result self.new }
     {
         while self.at < self.whole.as_str().len() {
-            let rest = &self.whole.as_str().as_bytes()[self.at..];
-            let (piece, _) = first_piece(rest);
+            let piece = piece_at(&self.whole, self.at);
             let line = line_in(&self.whole, piece, self.number, self.at)?;
             self.at += piece.len() + 1;
             self.number += 1;
