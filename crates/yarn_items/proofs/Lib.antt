@@ -20,6 +20,7 @@ pub mod ReadLemmas
 pub mod RunLemmas
 pub mod ScanLemmas
 pub mod SimpleLemmas
+pub mod SpecialLemmas
 pub mod TableLemmas
 pub mod TagsLemmas
 pub mod TextLaws

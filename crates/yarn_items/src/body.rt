@@ -8,7 +8,7 @@ use crate::item::{Found, Item};
 use crate::line::read_line;
 use crate::literals::bare;
 use crate::offer::read_offer;
-use crate::table::has_special;
+use crate::special::has_special;
 use std::alloc::Global;
 use yarn_base::Memory;
 use yarn_lines::without_blanks;

@@ -18,6 +18,7 @@ mod offer;
 mod pieces;
 mod read;
 mod run;
+mod special;
 mod table;
 mod text;
 
