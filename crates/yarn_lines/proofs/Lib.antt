@@ -5,3 +5,4 @@ pub mod Utf8Lemmas
 pub mod LfLemmas
 pub mod CutLemmas
 pub mod MarkLemmas
+pub mod TakingLemmas

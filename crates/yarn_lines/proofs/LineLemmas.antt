@@ -1,14 +1,16 @@
 -- The line of one piece: where its text stands, and that it may be cut out of the piece there.
-use Rattle.std.proofs.Common.{◌≡◌, ℕ, zero, suc, ◌+◌, ◌-◌, ◌<◌, ◌≤◌, List, [], ◌∷◌, ◌++◌, length, take, drop, Bool, true, false, ◌&&◌, nat_eq, refl, sym, ap, subst, ◌∙◌, arith, get_or, append_assoc, IsUtf8}
+use Rattle.std.proofs.Common.{◌≡◌, ℕ, ◌+◌, ◌<◌, ◌≤◌, List, [], ◌∷◌, ◌++◌, length, take, drop, Bool, true, false, ◌&&◌, nat_eq, Some, None, refl, sym, ap, subst, ◌∙◌, arith, get_or, append_assoc, IsUtf8}
+use Rattle.std.specs.Prelude.{encode_utf8}
 use Rattle.std.specs.List.{list_all}
 use Rattle.std.specs.Str.{IsCharBoundary}
 use Rattle.std.proofs.lemmas.Bool.{eqb-true}
-use Rattle.std.proofs.lemmas.List.{get_or-append-add, get_or_append_left, drop-append-le, take_at, length-drop, length-append, append-nil}
-use Rattle.std.proofs.lemmas.Str.{IsCharBoundary-after_ascii}
-use Rattle.yarn_lines.specs.Lines.{is_blank, without_cr, without_trailing, leading, past_leading, content, indent_of, text_of, counts}
+use Rattle.std.proofs.lemmas.List.{get_or-append-add, drop-append-le, take_at, length-drop, length-append}
+use Rattle.std.proofs.lemmas.Str.{IsUtf8-take, IsUtf8-past_char, encode_ascii}
+use Rattle.yarn_base.specs.Part.{cut}
+use Rattle.yarn_lines.specs.Lines.{is_blank, without_cr, without_trailing, leading, past_leading, width, content, indent_of, text_of, counts}
 use Rattle.yarn_lines.specs.Piece.{line_of}
-use Rattle.yarn_lines.specs.declared.line.RawLine.{RawLine}
 use Rattle.yarn_lines.proofs.PieceLemmas.{past_leading-drop}
+use Rattle.yarn_lines.proofs.CutLemmas.{cut-in_cut}
 
 -- the front of some bytes, behind which a byte below 128 stands, or none
 record Cuts (bytes front : List ℕ) : Type 0 where
@@ -63,7 +65,7 @@ content-cuts : (piece line : List ℕ) → line ≡ content piece → Cuts piece
 content-cuts piece line is = rw is (cuts_on piece (without_cr piece) (content piece) (without_cr-cuts piece) (without_trailing-cuts (without_cr piece)))
 
 -- a piece may be cut behind its line
-pub boundary_at_end : (piece line : List ℕ) → line ≡ content piece → IsCharBoundary piece (length line)
+boundary_at_end : (piece line : List ℕ) → line ≡ content piece → IsCharBoundary piece (length line)
 boundary_at_end piece line is = of (content-cuts piece line is)
   where
     of : Cuts piece line → IsCharBoundary piece (length line)
@@ -73,46 +75,24 @@ boundary_at_end piece line is = of (content-cuts piece line is)
         ap (λ l. get_or l (length line) 0) cuts.split ∙ ap (λ n. get_or (line ++ cuts.rest) n 0) none ∙ get_or-append-add line cuts.rest 0 0 in
         (omega (arith, ap length cuts.split, length-append line cuts.rest), λ lt high. absurd (omega (arith, cuts.ascii, here)))
 
-leading_ascii : (bytes : List ℕ) (k : ℕ) → k < length (leading bytes) → get_or bytes k 0 < 128
-leading_ascii [] k lt = absurd (omega arith)
-leading_ascii (b ∷ bytes) k lt = by_test (leading_ascii bytes) k lt (is_blank b) refl
-  where
-    by_test : ((j : ℕ) → j < length (leading bytes) → get_or bytes j 0 < 128) → (j : ℕ) → j < length (leading (b ∷ bytes)) →
-        (t : Bool) → is_blank b ≡ t → get_or (b ∷ bytes) j 0 < 128
-    by_test later zero below true t = blank_ascii b t
-    by_test later (suc j) below true t = later j (let h = rw t at below in omega arith)
-    by_test later j below false t = let h = rw t at below in absurd (omega arith)
+utf8_line : (piece line : List ℕ) → IsUtf8 piece → line ≡ content piece → IsUtf8 line
+utf8_line piece line utf8 is =
+    let cuts = content-cuts piece line is in
+    let front : take (length line) piece ≡ line = ap (take (length line)) cuts.split ∙ take_at line cuts.rest (length line) refl in
+    subst IsUtf8 front (IsUtf8-take piece (length line) utf8 (boundary_at_end piece line is))
 
--- and before its text
-pub boundary_at_text : (piece line : List ℕ) (front : ℕ) → IsUtf8 piece → line ≡ content piece → front ≡ length (leading line) →
-    front ≤ length line → 0 < front → IsCharBoundary piece front
-boundary_at_text piece line front utf8 is at within some = of (content-cuts piece line is)
+utf8_text : (line : List ℕ) → IsUtf8 line → IsUtf8 (past_leading line)
+utf8_text [] utf8 = utf8
+utf8_text (b ∷ line) utf8 = by_test (utf8_text line) (is_blank b) refl
   where
-    of : Cuts piece line → IsCharBoundary piece front
-    of cuts =
-        let inside : front - 1 < length line = omega arith in
-        let shorter : front - 1 < length piece = omega (arith, ap length cuts.split, length-append line cuts.rest) in
-        let blank : front - 1 < length (leading line) = omega arith in
-        let same : get_or piece (front - 1) 0 ≡ get_or line (front - 1) 0 =
-        ap (λ l. get_or l (front - 1) 0) cuts.split ∙ get_or_append_left line cuts.rest 0 (front - 1) inside in
-        let low : get_or piece (front - 1) 0 < 128 = omega (arith, same, leading_ascii line (front - 1) blank) in
-        let next : front - 1 + 1 ≡ front = omega arith in
-        subst (IsCharBoundary piece) next (IsCharBoundary-after_ascii piece (front - 1) utf8 shorter low)
+    by_test : (IsUtf8 line → IsUtf8 (past_leading line)) → (t : Bool) → is_blank b ≡ t → IsUtf8 (past_leading (b ∷ line))
+    by_test later true t =
+        let one = encode_ascii b (blank_ascii b t) in
+        let split : b ∷ line ≡ encode_utf8 b ++ line = sym (ap (λ l. l ++ line) one) in
+        rw t (later (IsUtf8-past_char (b ∷ line) line b utf8 split))
+    by_test later false t = rw t utf8
 
-pub text_of-between : (piece line : List ℕ) (front : ℕ) → line ≡ content piece → front ≡ length (leading line) → front ≤ length line →
-    take (length line - front) (drop front piece) ≡ text_of piece
-text_of-between piece line front is at within = of (content-cuts piece line is)
-  where
-    of : Cuts piece line → take (length line - front) (drop front piece) ≡ text_of piece
-    of cuts =
-        ap (λ l. take (length line - front) (drop front l)) cuts.split
-        ∙ ap (take (length line - front)) (drop-append-le front line cuts.rest within)
-        ∙ take_at (drop front line) cuts.rest (length line - front) (length-drop front line)
-        ∙ ap (λ n. drop n line) at
-        ∙ sym (past_leading-drop line)
-        ∙ ap past_leading is
-
-pub leading-take : (bytes : List ℕ) → take (length (leading bytes)) bytes ≡ leading bytes
+leading-take : (bytes : List ℕ) → take (length (leading bytes)) bytes ≡ leading bytes
 leading-take [] = refl
 leading-take (b ∷ bytes) = by_test (leading-take bytes) (is_blank b) refl
   where
@@ -121,15 +101,47 @@ leading-take (b ∷ bytes) = by_test (leading-take bytes) (is_blank b) refl
     by_test later true t = rw (t, later) refl
     by_test later false t = rw t refl
 
-pub line_of-none : (lines : List RawLine) (number at : ℕ) (piece text : List ℕ) → text ≡ text_of piece → counts text ≡ false →
-    lines ≡ lines ++ line_of number at piece
-line_of-none lines number at piece text is none =
+-- the blanks and the text of a piece, which stands at a place of the whole
+pub record Found (whole piece blanks text : List ℕ) (from front : ℕ) : Type 0 where
+  pub indent : width blanks ≡ indent_of piece
+  pub begins : front ≡ length (leading (content piece))
+  pub is : text ≡ text_of piece
+  pub within : front + length text ≤ length piece
+  pub utf8 : IsUtf8 text
+  pub place : text ≡ cut (from + front) (length text) whole
+
+pub found : (whole piece line blanks text : List ℕ) (from front : ℕ) → IsUtf8 piece → piece ≡ cut from (length piece) whole → line ≡ content piece →
+    front ≡ length (leading line) → front ≤ length line → blanks ≡ take front line → text ≡ drop front line → Found whole piece blanks text from front
+found whole piece line blanks text from front utf8 place line_is front_is within blanks_are is = of (content-cuts piece line line_is)
+  where
+    of : Cuts piece line → Found whole piece blanks text from front
+    of cuts =
+        let are : blanks ≡ leading line = blanks_are ∙ ap (λ n. take n line) front_is ∙ leading-take line in
+        let behind : text ≡ past_leading line = is ∙ ap (λ n. drop n line) front_is ∙ sym (past_leading-drop line) in
+        let long : length (drop front line) ≡ length text = sym (ap length is) in
+        let shorter : front + length text ≤ length piece =
+        omega (arith, long, length-drop front line, ap length cuts.split, length-append line cuts.rest) in
+        let between : text ≡ take (length text) (drop front piece) =
+        is ∙ sym (ap (λ l. take (length text) (drop front l)) cuts.split
+        ∙ ap (take (length text)) (drop-append-le front line cuts.rest within)
+        ∙ take_at (drop front line) cuts.rest (length text) long) in
+        record {
+          indent = ap width are ∙ ap (λ l. width (leading l)) line_is;
+          begins = front_is ∙ ap (λ l. length (leading l)) line_is;
+          is = behind ∙ ap past_leading line_is;
+          within = shorter;
+          utf8 = subst IsUtf8 (sym behind) (utf8_text line (utf8_line piece line utf8 line_is));
+          place = cut-in_cut whole piece text from (length piece) front (length text) place between shorter;
+        }
+
+pub line_of-none : (number at : ℕ) (piece text : List ℕ) → text ≡ text_of piece → counts text ≡ false → None ≡ line_of number at piece
+line_of-none number at piece text is none =
     let skipped : counts (text_of piece) ≡ false = ap counts (sym is) ∙ none in
-    rw skipped (sym (append-nil lines))
+    rw skipped refl
 
 pub line_of-some : (number at indent place : ℕ) (piece text : List ℕ) → text ≡ text_of piece → counts text ≡ true →
     indent ≡ indent_of piece → place ≡ at + length (leading (content piece)) →
-    record { number = number; indent = indent; at = place; text = text } ∷ [] ≡ line_of number at piece
+    Some (record { number = number; indent = indent; at = place; text = text }) ≡ line_of number at piece
 line_of-some number at indent place piece text is some indent_is place_is =
     let kept : counts (text_of piece) ≡ true = ap counts (sym is) ∙ some in
     rw (kept, is, indent_is, place_is) refl

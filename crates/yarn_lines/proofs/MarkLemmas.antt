@@ -2,7 +2,7 @@
 use Rattle.std.proofs.Common.{◌≡◌, ℕ, ◌≤◌, List, [], ◌∷◌, ◌++◌, length, take, drop, Bool, true, false, ◌&&◌, nat_eq, refl, sym, ap, subst, arith, IsUtf8}
 use Rattle.std.specs.Str.{IsCharBoundary}
 use Rattle.std.proofs.lemmas.Bool.{eqb-true, and_parts}
-use Rattle.std.proofs.lemmas.Str.{IsUtf8-append, IsCharBoundary-start, IsCharBoundary-from_take}
+use Rattle.std.proofs.lemmas.Str.{IsUtf8-append, IsUtf8-drop, IsCharBoundary-start, IsCharBoundary-from_take}
 use Rattle.yarn_lines.specs.Lines.{begins_with, mark_length}
 
 abbrev mark : List ℕ
@@ -26,7 +26,7 @@ marked (a ∷ b ∷ c ∷ rest) is =
     let last = and_parts (nat_eq c 191) true later.1 in
     rw (eqb-true a 239 both.0, eqb-true b 187 later.0, eqb-true c 191 last.0) refl
 
-pub boundary_behind_mark : (bytes : List ℕ) → IsUtf8 bytes → IsCharBoundary bytes (mark_length bytes)
+boundary_behind_mark : (bytes : List ℕ) → IsUtf8 bytes → IsCharBoundary bytes (mark_length bytes)
 boundary_behind_mark bytes utf8 = by_test (begins_with mark bytes) refl
   where
     by_test : (t : Bool) → begins_with mark bytes ≡ t → IsCharBoundary bytes (mark_length bytes)
@@ -36,6 +36,9 @@ boundary_behind_mark bytes utf8 = by_test (begins_with mark bytes) refl
         let long : 3 ≤ length bytes = let h = ap length all in omega (arith, h) in
         rw is (IsCharBoundary-from_take bytes 3 utf8 long (subst IsUtf8 (sym front) mark_utf8))
     by_test false is = rw is (IsCharBoundary-start bytes utf8)
+
+pub utf8_behind_mark : (bytes : List ℕ) → IsUtf8 bytes → IsUtf8 (drop (mark_length bytes) bytes)
+utf8_behind_mark bytes utf8 = IsUtf8-drop bytes (mark_length bytes) utf8 (boundary_behind_mark bytes utf8)
 
 pub utf8_with_mark : (bytes : List ℕ) → IsUtf8 (drop (mark_length bytes) bytes) → IsUtf8 bytes
 utf8_with_mark bytes body = by_test (begins_with mark bytes) refl

@@ -1,10 +1,10 @@
 -- The first piece of some bytes, and the blanks around a line.
-use Rattle.std.proofs.Common.{◌≡◌, ℕ, zero, suc, ◌+◌, ◌-◌, ◌<◌, ◌≤◌, List, [], ◌∷◌, ◌++◌, length, take, drop, Bool, true, false, ◌&&◌, nat_eq, refl, sym, ap, ◌∙◌, arith, add-one, get_or}
-use Rattle.std.proofs.lemmas.Bool.{eqb-true}
-use Rattle.std.proofs.lemmas.List.{take_more, take_rest}
+use Rattle.std.proofs.Common.{◌≡◌, ℕ, zero, suc, ◌+◌, ◌-◌, ◌<◌, ◌≤◌, List, [], ◌∷◌, ◌++◌, length, take, drop, Bool, true, false, ◌&&◌, nat_eq, None, ◌⊎◌, inl, inr, refl, sym, ap, ◌∙◌, arith, add-one, get_or}
+use Rattle.std.proofs.lemmas.Bool.{eqb-true, cases_lt}
+use Rattle.std.proofs.lemmas.List.{take_all, drop_all, take_more, take_rest}
 use Rattle.std.proofs.lemmas.List.Folds.{list_all-append}
 use Rattle.std.specs.List.{list_all}
-use Rattle.yarn_lines.specs.Lines.{pieces_of, is_blank, without_cr, without_trailing, leading, past_leading}
+use Rattle.yarn_lines.specs.Lines.{pieces_of, first_from, is_blank, without_cr, without_trailing, leading, past_leading}
 use Rattle.yarn_lines.specs.Piece.{length_to_lf}
 
 pub pieces_of-cut : (bytes : List ℕ) → length_to_lf bytes < length bytes →
@@ -33,6 +33,31 @@ pieces_of-last (b ∷ c ∷ bytes) lt le = by_test (pieces_of-last (c ∷ bytes)
         (is : Bool) → nat_eq b 10 ≡ is → pieces_of (b ∷ c ∷ bytes) ≡ (b ∷ c ∷ bytes) ∷ []
     by_test later true is = let h = rw is at le in absurd (omega arith)
     by_test later false is = let h = rw is at le in rw (is, later (omega arith)) refl
+
+pub length_to_lf-le : (bytes : List ℕ) → length_to_lf bytes ≤ length bytes
+length_to_lf-le [] = omega arith
+length_to_lf-le (b ∷ bytes) = by_test (length_to_lf-le bytes) (nat_eq b 10) refl
+  where
+    by_test : length_to_lf bytes ≤ length bytes → (is : Bool) → nat_eq b 10 ≡ is → length_to_lf (b ∷ bytes) ≤ length (b ∷ bytes)
+    by_test later true is = rw is (omega arith)
+    by_test later false is = rw is (omega arith)
+
+pub pieces_of-first : (bytes : List ℕ) → 0 < length bytes → pieces_of bytes ≡ take (length_to_lf bytes) bytes ∷ pieces_of (drop (length_to_lf bytes + 1) bytes)
+pieces_of-first bytes some = by_end (cases_lt (length_to_lf bytes) (length bytes))
+  where
+    by_end : (length_to_lf bytes < length bytes) ⊎ (length bytes ≤ length_to_lf bytes) →
+        pieces_of bytes ≡ take (length_to_lf bytes) bytes ∷ pieces_of (drop (length_to_lf bytes + 1) bytes)
+    by_end (inl lt) = pieces_of-cut bytes lt
+    by_end (inr ge) = rw (take_all (length_to_lf bytes) bytes ge, drop_all (length_to_lf bytes + 1) bytes (omega arith)) (pieces_of-last bytes some ge)
+
+-- where the test fails at every piece, it does at the first
+pub first_from-none : (test : List ℕ → Bool) (n : ℕ) (piece : List ℕ) (pieces : List (List ℕ)) → first_from test n (piece ∷ pieces) ≡ None →
+    (test piece ≡ false) × (first_from test (n + 1) pieces ≡ None)
+first_from-none test n piece pieces none = by_test (test piece) refl
+  where
+    by_test : (is : Bool) → test piece ≡ is → (test piece ≡ false) × (first_from test (n + 1) pieces ≡ None)
+    by_test true is = let h = rw is at none in absurd cc
+    by_test false is = (is, rw is at none)
 
 pub without_cr-cr : (bytes : List ℕ) (n : ℕ) → length bytes ≡ n + 1 → get_or bytes n 0 ≡ 13 → without_cr bytes ≡ take n bytes
 without_cr-cr [] n e is = absurd (omega arith)

@@ -3,12 +3,12 @@ use Rattle.std.proofs.Common.{◌≡◌, ℕ, zero, suc, ◌+◌, ◌<◌, ◌�
 use Rattle.std.specs.Str.{is_utf8, IsCharBoundary}
 use Rattle.std.specs.Result.{is_ok}
 use Rattle.std.proofs.lemmas.Bool.{eqb-true, cases_lt}
-use Rattle.std.proofs.lemmas.List.{take-append-drop, drop_more, length-drop}
+use Rattle.std.proofs.lemmas.List.{take-append-drop, take_all, drop_all, drop_more, length-drop}
 use Rattle.std.proofs.lemmas.Str.{IsUtf8-append, IsUtf8-from_is_utf8, is_utf8-from_IsUtf8, IsUtf8-nil, IsUtf8-take, IsUtf8-drop, IsCharBoundary-before_ascii, IsCharBoundary-after_ascii}
 use Rattle.yarn_lines.specs.Lines.{pieces_of, first_from}
 use Rattle.yarn_lines.specs.Piece.{length_to_lf}
 use Rattle.yarn_lines.specs.Fault.{is_bad}
-use Rattle.yarn_lines.proofs.PieceLemmas.{pieces_of-cut, pieces_of-last}
+use Rattle.yarn_lines.proofs.PieceLemmas.{pieces_of-cut, pieces_of-last, pieces_of-first, first_from-none}
 
 pub is_utf8-no : (bytes : List ℕ) → (IsUtf8 bytes → ⊥) → is_utf8 bytes ≡ false
 is_utf8-no bytes refuse = by_test (is_utf8 bytes) refl
@@ -33,15 +33,11 @@ length_to_lf-lf (b ∷ bytes) lt = by_test (length_to_lf-lf bytes) (nat_eq b 10)
         let shorter : length_to_lf bytes < length bytes = let h = rw is at lt in omega arith in
         rw (is, add-one) (later shorter)
 
-pub boundary_at_lf : (bytes : List ℕ) (end : ℕ) → end ≡ length_to_lf bytes → end < length bytes → IsCharBoundary bytes end
-boundary_at_lf bytes end is lt =
-    let at : length_to_lf bytes < length bytes = omega arith in
-    IsCharBoundary-before_ascii bytes end lt (let e = length_to_lf-lf bytes at in rw (is, e) (omega arith))
+boundary_at_lf : (bytes : List ℕ) → length_to_lf bytes < length bytes → IsCharBoundary bytes (length_to_lf bytes)
+boundary_at_lf bytes lt = IsCharBoundary-before_ascii bytes (length_to_lf bytes) lt (omega (arith, length_to_lf-lf bytes lt))
 
-pub boundary_behind_lf : (bytes : List ℕ) (end : ℕ) → IsUtf8 bytes → end ≡ length_to_lf bytes → end < length bytes → IsCharBoundary bytes (end + 1)
-boundary_behind_lf bytes end utf8 is lt =
-    let at : length_to_lf bytes < length bytes = omega arith in
-    IsCharBoundary-after_ascii bytes end utf8 lt (let e = length_to_lf-lf bytes at in rw (is, e) (omega arith))
+boundary_behind_lf : (bytes : List ℕ) → IsUtf8 bytes → length_to_lf bytes < length bytes → IsCharBoundary bytes (length_to_lf bytes + 1)
+boundary_behind_lf bytes utf8 lt = IsCharBoundary-after_ascii bytes (length_to_lf bytes) utf8 lt (omega (arith, length_to_lf-lf bytes lt))
 
 newline_utf8 : IsUtf8 (10 ∷ [])
 unfolding lib.Utf8.encode
@@ -60,26 +56,38 @@ good_past n piece pieces utf8 = let is = is_utf8-from_IsUtf8 piece utf8 in rw is
 
 good_front : (n : ℕ) (piece : List ℕ) (pieces : List (List ℕ)) → first_from is_bad n (piece ∷ pieces) ≡ None →
     IsUtf8 piece × (first_from is_bad (n + 1) pieces ≡ None)
-good_front n piece pieces none = by_test (is_utf8 piece) refl
+good_front n piece pieces none =
+    let parts = first_from-none is_bad n piece pieces none in
+    (IsUtf8-from_is_utf8 piece (by_test (is_utf8 piece) refl parts.0), parts.1)
   where
-    by_test : (is : Bool) → is_utf8 piece ≡ is → IsUtf8 piece × (first_from is_bad (n + 1) pieces ≡ None)
-    by_test true is = (IsUtf8-from_is_utf8 piece is, rw is at none)
-    by_test false is = let h = rw is at none in absurd cc
+    by_test : (is : Bool) → is_utf8 piece ≡ is → is_bad piece ≡ false → is_utf8 piece ≡ true
+    by_test true is good = is
+    by_test false is good = let h = rw is at good in absurd cc
+
+-- the first piece of UTF-8, and what stands behind it
+pub utf8_first : (bytes : List ℕ) → IsUtf8 bytes → IsUtf8 (take (length_to_lf bytes) bytes) × IsUtf8 (drop (length_to_lf bytes + 1) bytes)
+utf8_first bytes utf8 = by_end (cases_lt (length_to_lf bytes) (length bytes))
+  where
+    by_end : (length_to_lf bytes < length bytes) ⊎ (length bytes ≤ length_to_lf bytes) →
+        IsUtf8 (take (length_to_lf bytes) bytes) × IsUtf8 (drop (length_to_lf bytes + 1) bytes)
+    by_end (inl lt) = (
+      IsUtf8-take bytes (length_to_lf bytes) utf8 (boundary_at_lf bytes lt),
+      IsUtf8-drop bytes (length_to_lf bytes + 1) utf8 (boundary_behind_lf bytes utf8 lt),
+    )
+    by_end (inr ge) = (
+      subst IsUtf8 (sym (take_all (length_to_lf bytes) bytes ge)) utf8,
+      subst IsUtf8 (sym (drop_all (length_to_lf bytes + 1) bytes (omega arith))) IsUtf8-nil,
+    )
 
 none_step : (most n : ℕ) (all : List ℕ) → 0 < length all → length all ≤ suc most → IsUtf8 all →
     ((rest : List ℕ) (m : ℕ) → length rest ≤ most → IsUtf8 rest → first_from is_bad m (pieces_of rest) ≡ None) →
     first_from is_bad n (pieces_of all) ≡ None
-none_step most n all some le utf8 later = by_end (cases_lt (length_to_lf all) (length all))
-  where
-    by_end : (length_to_lf all < length all) ⊎ (length all ≤ length_to_lf all) → first_from is_bad n (pieces_of all) ≡ None
-    by_end (inl lt) =
-        let end = length_to_lf all in
-        let front = IsUtf8-take all end utf8 (boundary_at_lf all end refl lt) in
-        let back = IsUtf8-drop all (end + 1) utf8 (boundary_behind_lf all end utf8 refl lt) in
-        let shorter : length (drop (end + 1) all) ≤ most = omega (arith, length-drop (end + 1) all) in
-        ap (first_from is_bad n) (pieces_of-cut all lt) ∙ good_past n (take end all) (pieces_of (drop (end + 1) all)) front
-        ∙ later (drop (end + 1) all) (n + 1) shorter back
-    by_end (inr ge) = ap (first_from is_bad n) (pieces_of-last all some ge) ∙ good_past n all [] utf8
+none_step most n all some le utf8 later =
+    let end = length_to_lf all in
+    let parts = utf8_first all utf8 in
+    let shorter : length (drop (end + 1) all) ≤ most = omega (arith, length-drop (end + 1) all) in
+    ap (first_from is_bad n) (pieces_of-first all some) ∙ good_past n (take end all) (pieces_of (drop (end + 1) all)) parts.0
+    ∙ later (drop (end + 1) all) (n + 1) shorter parts.1
 
 -- no line of UTF-8 is bad
 first_bad-within : (most : ℕ) (bytes : List ℕ) (n : ℕ) → length bytes ≤ most → IsUtf8 bytes → first_from is_bad n (pieces_of bytes) ≡ None

@@ -31,3 +31,9 @@ SplitsText at text (Ok lines) = (first_from is_long 1 (pieces_of text) ≡ None)
 SplitsText at text (Err (BadUtf8 number)) = ⊥
 SplitsText at text (Err (LineTooLong number)) = first_from is_long 1 (pieces_of text) ≡ Some number
 SplitsText at text (Err Memory) = ⊤
+
+-- the place of the end of a text, where none of its lines is long; else the first long one
+abbrev pub Ends : List ℕ → Result ℕ LineFault → Type 0
+Ends text (Ok end) = (first_from is_long 1 (pieces_of text) ≡ None) × (end ≡ length (pieces_of text) + 1)
+Ends text (Err (LineTooLong number)) = first_from is_long 1 (pieces_of text) ≡ Some number
+Ends text (Err _) = ⊥

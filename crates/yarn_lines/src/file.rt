@@ -2,12 +2,10 @@
 ghost use Rattle.std.specs.Prelude.{◌≡◌, ◌+◌, ◌≤◌, ◌<◌, ◌∷◌, length, drop, IsUtf8, Some, string_bytes};
 ghost use Rattle.std.specs.Str.{is_utf8};
 ghost use Rattle.yarn_lines.specs.Lines.{mark_length, pieces_of, first_from};
-ghost use Rattle.yarn_lines.specs.Fault.{Splits, SplitsText, is_bad};
-ghost use Rattle.yarn_lines.specs.Piece.{length_to_lf};
+ghost use Rattle.yarn_lines.specs.Fault.{Splits, SplitsText, Ends, is_bad};
 
-use crate::line::push_line;
-use crate::piece::{first_line, first_piece};
-use crate::{LineFault, Lines};
+use crate::piece::first_piece;
+use crate::{LineFault, Lines, RawLines};
 use std::alloc::Global;
 use yarn_base::{List, WholeText};
 
@@ -78,45 +76,48 @@ fn split_string(alloc: Global, text: String) -> Result<Lines, LineFault>
     ensures { Splits (string_bytes text) result }
 {
     match WholeText::from_string(alloc, text) {
-        Ok(whole) => split_whole(alloc, &whole),
+        Ok(whole) => split_whole(whole),
         Err(_) => Err(LineFault::Memory),
     }
 }
 
-fn split_whole(alloc: Global, whole: &WholeText) -> Result<Lines, LineFault>
-    requires { length whole.now ≤ 1073741824 }
-    ensures { Splits whole.now result }
+fn split_whole(whole: WholeText) -> Result<Lines, LineFault>
+    requires { length whole ≤ 1073741824 }
+    ensures { Splits whole result }
 {
-    let text = whole.as_str();
-    let start = text.len() - past_mark(text.as_bytes()).len();
-    split_body(alloc, whole, &text[start..], start)
+    let bytes = whole.as_str().as_bytes();
+    let start = bytes.len() - past_mark(bytes).len();
+    split_body(whole, start)
 }
 
 // The lines of what stands behind that place of the whole.
-fn split_body(
-    alloc: Global,
-    whole: &WholeText,
-    body: &str,
-    start: usize,
-) -> Result<Lines, LineFault>
-    requires within { start + length body.now ≤ length whole.now }
-    requires small { length whole.now ≤ 1073741824 }
-    requires behind { body.now ≡ drop start whole.now }
-    ensures { SplitsText start body.now result }
+fn split_body(whole: WholeText, start: usize) -> Result<Lines, LineFault>
+    requires small { length whole ≤ 1073741824 }
+    requires within { start ≤ length whole }
+    requires utf8 { IsUtf8 (drop start whole) }
+    ensures { SplitsText start (drop start whole) result }
 {
-    let mut lines = List::new(alloc);
+    let end = end_of(&whole.as_str().as_bytes()[start..])?;
+    Ok(Lines {
+        lines: RawLines::behind(whole, start, 1),
+        end,
+    })
+}
+
+// The number of the lines and one more. An `Err` is the first that is too long.
+fn end_of(bytes: &[u8]) -> Result<u32, LineFault>
+    requires { length bytes.now ≤ 1073741824 }
+    ensures { Ends bytes.now result }
+{
     let mut number = 1;
-    let mut at = start;
-    let mut rest = body;
+    let mut rest = bytes;
     while !rest.is_empty() {
-        let (piece, after) = first_line(rest);
+        let (piece, after) = first_piece(rest);
         if piece.len() > LONGEST_LINE {
             return Err(LineFault::LineTooLong(number));
         }
-        push_line(&mut lines, whole, piece, number, at)?;
         number += 1;
-        at += piece.len() + 1;
         rest = after;
     }
-    Ok(Lines { lines, end: number })
+    Ok(number)
 }

@@ -1,11 +1,13 @@
 //! One line, and why a file has no lines.
-ghost use Rattle.std.specs.Prelude.{◌≡◌, ◌+◌, ◌≤◌, ◌++◌, length, OnOk, IfOk};
+ghost use Rattle.std.specs.Prelude.{◌≡◌, ◌+◌, ◌≤◌, length, drop, IfOk, IsUtf8};
 ghost use Rattle.yarn_base.specs.Part.{cut};
-ghost use Rattle.yarn_lines.specs.Lines.{width, counts};
+ghost use Rattle.yarn_lines.specs.Lines.{width, counts, lines_from, pieces_of};
 ghost use Rattle.yarn_lines.specs.Piece.{line_of};
+ghost use Rattle.yarn_lines.specs.Taking.{AreLeft, Takes};
 
-use crate::piece::{content_in, leading_length};
-use yarn_base::{List, Memory, Text, WholeText};
+use crate::piece::{content_in, leading_length, piece_at};
+use std::marker::Model;
+use yarn_base::{Memory, Text, WholeText};
 
 /// A line that counts: its text is neither empty nor a comment (docs/language.md, Lines).
 #[derive(Debug, Drop)]
@@ -23,9 +25,60 @@ pub struct RawLine {
 /// The lines of a file that count, in order.
 #[derive(Debug, Drop)]
 pub struct Lines {
-    pub lines: List<RawLine>,
+    pub lines: RawLines,
     /// The number of lines and one more: the place of the file's end.
     pub end: u32,
+}
+
+/// The lines of a file that count, in order, which aren't taken yet. Contracts see the list of them; each is cut out of
+/// the file when it is taken.
+#[derive(Debug, Drop)]
+pub struct RawLines {
+    whole: WholeText,
+    /// Where in it the lines begin that aren't looked at yet.
+    at: usize,
+    /// The number of the first of them.
+    number: u32,
+}
+
+impl Model for RawLines {
+    ghost use Rattle.std.specs.Prelude.{List, drop};
+    ghost use Rattle.yarn_lines.specs.declared.line.RawLine.{RawLine};
+
+    ghost Value = { List RawLine };
+
+    ghost use Rattle.yarn_lines.specs.Lines.{lines_from, pieces_of};
+    ghost use Rattle.yarn_lines.specs.Taking.{AreLeft};
+
+    ghost view = { λ l. lines_from l.number l.at (pieces_of (drop l.at l.whole)) };
+
+    ghost invariant = { λ l. AreLeft l.whole l.at l.number };
+}
+
+impl RawLines {
+    // The lines behind that place of the whole, the first having that number.
+    pub(crate) fn behind(whole: WholeText, at: usize, number: u32) -> RawLines
+        requires { AreLeft whole at number }
+        ensures { result ≡ lines_from number at (pieces_of (drop at whole)) }
+    {
+        RawLines { whole, at, number }
+    }
+
+    /// Takes the next line; nothing where none is left. An `Err` leaves the lines.
+    pub fn take_first(&mut self) -> Result<Option<RawLine>, Memory>
+        ensures { Takes self.old result self.new }
+    {
+        while self.at < self.whole.as_str().len() {
+            let piece = piece_at(&self.whole, self.at);
+            let line = line_in(&self.whole, piece, self.number, self.at)?;
+            self.at += piece.len() + 1;
+            self.number += 1;
+            if line.is_some() {
+                return Ok(line);
+            }
+        }
+        Ok(None)
+    }
 }
 
 /// Why a file has no lines.
@@ -50,49 +103,47 @@ impl From<Memory> for LineFault {
     }
 }
 
-/// Puts the line of a piece, which stands at that place of the whole, behind the lines, where it counts.
-pub(crate) fn push_line(
-    lines: &mut List<RawLine>,
+// The line of a piece, which stands at that place of the whole, where it counts.
+fn line_in(
     whole: &WholeText,
-    piece: &str,
+    piece: &[u8],
     number: u32,
     at: usize,
-) -> Result<(), Memory>
+) -> Result<Option<RawLine>, Memory>
     requires short { length piece.now ≤ 65536 }
     requires place { (at + length piece.now ≤ length whole.now) × (length whole.now ≤ 1073741824) }
     requires cut { piece.now ≡ cut at (length piece.now) whole.now }
-    ensures { OnOk result (lines.new ≡ lines.old ++ line_of number at piece.now) }
+    requires utf8 { IsUtf8 piece.now }
+    ensures { IfOk result (λ line. line ≡ line_of number at piece.now) }
 {
-    let content = content_in(piece.as_bytes());
+    let content = content_in(piece);
     let front = leading_length(content);
-    let text = &piece[front..content.len()];
+    let (blanks, text) = content.split_at(front);
     if !counts_in(text) {
-        return Ok(());
+        return Ok(None);
     }
-    let line = RawLine {
+    Ok(Some(RawLine {
         number,
-        indent: width_in(&content[..front]),
+        indent: width_in(blanks),
         at: at + front,
         text: part_of(whole, at + front, text)?,
-    };
-    lines.push(line).map_err(|_| Memory)?;
-    Ok(())
+    }))
 }
 
 // The text, which stands there in the whole.
-fn part_of(whole: &WholeText, from: usize, text: &str) -> Result<Text, Memory>
+fn part_of(whole: &WholeText, from: usize, text: &[u8]) -> Result<Text, Memory>
     requires within { (from + length text.now ≤ length whole.now) × (length whole.now ≤ 1073741824) }
     requires cut { text.now ≡ cut from (length text.now) whole.now }
+    requires utf8 { IsUtf8 text.now }
     ensures { IfOk result (λ part. part ≡ text.now) }
 {
     whole.part(from as u32, text.len() as u32)
 }
 
 // Whether a line with this text counts.
-fn counts_in(text: &str) -> bool
+fn counts_in(text: &[u8]) -> bool
     ensures { result ≡ counts text.now }
 {
-    let text = text.as_bytes();
     !text.is_empty() && !text.starts_with(b"//")
 }
 

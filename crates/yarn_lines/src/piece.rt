@@ -1,9 +1,10 @@
 //! The pieces of a file that LFs end, and the parts of one: its blanks and its text.
-ghost use Rattle.std.specs.Prelude.{◌≡◌, ◌≤◌, ◌<◌, ◌∷◌, ◌+◌, length, take, drop, IsUtf8};
+ghost use Rattle.std.specs.Prelude.{◌≡◌, ◌≤◌, ◌<◌, ◌∷◌, length, take, drop};
 ghost use Rattle.yarn_lines.specs.Lines.{pieces_of, is_blank, without_cr, without_trailing, leading, past_leading, content, text_of};
 ghost use Rattle.yarn_lines.specs.Piece.{length_to_lf};
 
 use memchr::memchr;
+use yarn_base::WholeText;
 
 /// The first line of the bytes without its LF, and what stands behind the LF.
 pub fn first_piece(bytes: &[u8]) -> (&[u8], &[u8])
@@ -19,22 +20,13 @@ pub fn first_piece(bytes: &[u8]) -> (&[u8], &[u8])
     }
 }
 
-/// The first line of a text without its LF, and what stands behind the LF.
-pub(crate) fn first_line(text: &str) -> (&str, &str)
-    requires { 0 < length text.now }
-    ensures pieces { pieces_of text.now ≡ result.0.now ∷ pieces_of result.1.now }
-    ensures shorter { length result.1.now < length text.now }
-    ensures within { length result.0.now + length result.1.now ≤ length text.now }
-    ensures front { result.0.now ≡ take (length result.0.now) text.now }
-    ensures back { result.1.now ≡ drop (length result.0.now + 1) text.now }
-    ensures utf8 { IsUtf8 result.0.now × IsUtf8 result.1.now }
+/// The first line of what stands behind that place, without its LF.
+pub(crate) fn piece_at(whole: &WholeText, at: usize) -> &[u8]
+    requires { at ≤ length whole.now }
+    ensures { result.now ≡ take (length_to_lf (drop at whole.now)) (drop at whole.now) }
 {
-    let end = first_lf(text.as_bytes());
-    if end < text.len() {
-        (&text[..end], &text[end + 1..])
-    } else {
-        (text, "")
-    }
+    let rest = &whole.as_str().as_bytes()[at..];
+    &rest[..first_lf(rest)]
 }
 
 // The place of the first LF, and of the end where there is none.
