@@ -84,8 +84,7 @@ impl Draft {
         ensures { OnOk result (self.new ≡ said_taken ids self.old (item_at spot (item.Line said)) said) }
     {
         let text = self.next_text(alloc, ids, spot.line, said)?;
-        self.body
-            .push_statement(spot.line, spot.indent, Simple::Line(text))
+        self.body.push_line(spot.line, spot.indent, text)
     }
 
     /// Takes an option; it has an id where ids are wanted.

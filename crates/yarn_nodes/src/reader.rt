@@ -215,9 +215,9 @@ pub fn read_lines(
 ) -> Result<FileRead, Memory>
     ensures { IfOk result (λ read. read ≡ file_of ids number name lines) }
 {
-    let Lines { lines, end } = lines;
+    let Lines { mut lines, end } = lines;
     let mut reader = Reader::new(alloc, ids);
-    for line in lines.into_vec() {
+    while let Some(line) = lines.take_first()? {
         reader.take(alloc, line)?;
     }
     reader.finish(alloc, number, name, end)

@@ -1,8 +1,9 @@
-use Rattle.std.proofs.Common.{◌∙◌, sym, ap}
+use Rattle.std.proofs.Common.{◌≡◌, ◌∷◌, ◌∙◌, sym, ap}
 use Rattle.yarn_nodes.specs.Reading.{read_on}
 use Rattle.yarn_nodes.proofs.reader.read_lines.Goals as goal
 
-pub loop-line-preserved : goal.loop-line-preserved
-loop-line-preserved c =
-    sym (c.in_ok-take.ensures c.args.number c.args.name c.args.lines.end c.next.new.self.rest.items)
-    ∙ ap (read_on c.loop-line.reader c.args.number c.args.name c.args.lines.end) (sym c.in-Some.ensures.steps.0) ∙ c.loop-line.invariant
+pub loop-reader-preserved : goal.loop-reader-preserved
+loop-reader-preserved c =
+    let taken : c.loop-reader.lines ≡ c.in-Some.line ∷ c.take_first.new.self = rw c.in-Some.is at c.in_ok-line.ensures in
+    sym (c.in_ok-take.ensures c.args.number c.args.name c.args.lines.end c.take_first.new.self)
+    ∙ ap (read_on c.loop-reader.reader c.args.number c.args.name c.args.lines.end) (sym taken) ∙ c.loop-reader.invariant

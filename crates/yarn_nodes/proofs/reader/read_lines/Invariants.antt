@@ -1,8 +1,11 @@
-use Rattle.std.proofs.Common.{◌≡◌}
+use Rattle.std.proofs.Common.{◌≡◌, length}
 use Rattle.yarn_nodes.specs.Reader.{file_of}
 use Rattle.yarn_nodes.specs.Reading.{read_on}
 use Rattle.yarn_nodes.proofs.reader.read_lines.Given as goal
 
-abbrev pub invariant-loop-line : goal.invariant-loop-line
-invariant-loop-line l =
-    read_on l.reader l.fn.number l.fn.name l.fn.lines.end l.line-iterator.rest.items ≡ file_of l.fn.ids l.fn.number l.fn.name l.fn.lines
+abbrev pub invariant-loop-reader : goal.invariant-loop-reader
+invariant-loop-reader l =
+    read_on l.reader l.fn.number l.fn.name l.fn.lines.end l.lines ≡ file_of l.fn.ids l.fn.number l.fn.name l.fn.lines
+
+abbrev pub decreases-loop-reader : goal.decreases-loop-reader
+decreases-loop-reader l = length l.lines
