@@ -11,7 +11,7 @@ pub record AreLeft (whole : List ℕ) (at number : ℕ) : Type 0 where
   pub count : number ≤ at + 1
   pub short : first_from is_long number (pieces_of (drop at whole)) ≡ None
 
--- the first of the lines is taken, and those behind it are left; nothing, where there is none
+-- the first of the lines is taken, and those behind it are left; nothing, where there is none; an `Err` leaves all
 abbrev pub Takes : List RawLine → Result (Option RawLine) Memory → List RawLine → Type 0
 Takes before (Ok (Some line)) after = before ≡ line ∷ after
 Takes before (Ok None) after = (before ≡ []) × (after ≡ [])

@@ -1,5 +1,6 @@
-//! The lines of a whole file: first whether it is UTF-8, then one pass over its lines.
-ghost use Rattle.std.specs.Prelude.{◌≡◌, ◌+◌, ◌≤◌, ◌<◌, ◌∷◌, length, drop, IsUtf8, Some, string_bytes};
+//! The lines of a whole file: first whether it is UTF-8, then one pass that counts its lines and finds one that is too
+//! long.
+ghost use Rattle.std.specs.Prelude.{◌≡◌, ◌+◌, ◌≤◌, ◌<◌, length, drop, IsUtf8, Some, string_bytes};
 ghost use Rattle.std.specs.Str.{is_utf8};
 ghost use Rattle.yarn_lines.specs.Lines.{mark_length, pieces_of, first_from};
 ghost use Rattle.yarn_lines.specs.Fault.{Splits, SplitsText, Ends, is_bad};
@@ -99,7 +100,7 @@ fn split_body(whole: WholeText, start: usize) -> Result<Lines, LineFault>
 {
     let end = end_of(&whole.as_str().as_bytes()[start..])?;
     Ok(Lines {
-        lines: RawLines::behind(whole, start, 1),
+        lines: RawLines::behind(whole, start),
         end,
     })
 }

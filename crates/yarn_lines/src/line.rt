@@ -1,4 +1,4 @@
-//! One line, and why a file has no lines.
+//! One line, the lines that aren't taken yet, and why a file has none.
 ghost use Rattle.std.specs.Prelude.{◌≡◌, ◌+◌, ◌≤◌, length, drop, IfOk, IsUtf8};
 ghost use Rattle.yarn_base.specs.Part.{cut};
 ghost use Rattle.yarn_lines.specs.Lines.{width, counts, lines_from, pieces_of};
@@ -56,12 +56,16 @@ impl Model for RawLines {
 }
 
 impl RawLines {
-    // The lines behind that place of the whole, the first having that number.
-    pub(crate) fn behind(whole: WholeText, at: usize, number: u32) -> RawLines
-        requires { AreLeft whole at number }
-        ensures { result ≡ lines_from number at (pieces_of (drop at whole)) }
+    // The lines behind that place of a text, the first of them having the number 1.
+    pub(crate) fn behind(whole: WholeText, at: usize) -> RawLines
+        requires { AreLeft whole at 1 }
+        ensures { result ≡ lines_from 1 at (pieces_of (drop at whole)) }
     {
-        RawLines { whole, at, number }
+        RawLines {
+            whole,
+            at,
+            number: 1,
+        }
     }
 
     /// Takes the next line; nothing where none is left. An `Err` leaves the lines.

@@ -20,20 +20,33 @@ fn joined(alloc: Global, parts: &[Part]) -> Result<List<u8>, Memory> {
     Ok(bytes)
 }
 
-fn expect_lines(rt: &impl Abort, alloc: Global, file: &List<u8>, end: u32, expected: &[Expected]) {
+fn expect_lines(
+    rt: &impl Abort,
+    alloc: Global,
+    file: &List<u8>,
+    end: u32,
+    expected: &[Expected],
+) -> Result<(), Memory> {
     assert!(rt; file.len() <= 1073741824);
     let shown = file.as_slice();
-    let Ok(found) = split(alloc, file) else {
+    let Ok(mut found) = split(alloc, file) else {
         panic!(rt; "no lines of {shown:?}");
     };
     assert_eq!(rt; found.end, end, "of {shown:?}");
-    assert_eq!(rt; found.lines.len(), expected.len(), "of {shown:?}");
-    for (line, (number, indent, at, text)) in found.lines.as_slice().iter().zip(expected) {
+    for (number, indent, at, text) in expected {
+        let Some(line) = found.lines.take_first()? else {
+            panic!(rt; "too few lines of {shown:?}");
+        };
         assert_eq!(rt; line.number, *number, "of {shown:?}");
         assert_eq!(rt; line.indent, *indent, "of {shown:?}");
         assert_eq!(rt; line.at, *at, "of {shown:?}");
         assert_eq!(rt; line.text.as_str(), *text, "of {shown:?}");
     }
+    assert!(rt;
+        found.lines.take_first()?.is_none(),
+        "too many lines of {shown:?}"
+    );
+    Ok(())
 }
 
 #[test]
@@ -73,7 +86,7 @@ fn a_file_is_split_into_its_lines(rt: HostRuntime) -> Result<(), Fail> {
         ),
     ];
     for (file, end, expected) in rows {
-        expect_lines(&rt, alloc, &joined(alloc, &[(file, 1)])?, end, expected);
+        expect_lines(&rt, alloc, &joined(alloc, &[(file, 1)])?, end, expected)?;
     }
     Ok(())
 }

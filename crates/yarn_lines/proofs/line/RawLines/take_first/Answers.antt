@@ -34,5 +34,5 @@ loop-self-preserved c =
     record {
       left = next.left;
       same = skips c.loop-self.self-inside.whole c.piece_at-piece.result.now c.loop-self.self-inside.at c.loop-self.self-inside.number
-      c.args.self.now c.in_ok-line.line next c.loop-self.invariant.same c.in_ok-line.ensures (sym c.is_some.ensures ∙ c.if-is_some.false);
+          c.args.self.now c.in_ok-line.line next c.loop-self.invariant.same c.in_ok-line.ensures (sym c.is_some.ensures ∙ c.if-is_some.false);
     }
