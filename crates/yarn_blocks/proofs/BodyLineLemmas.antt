@@ -3,6 +3,7 @@ use Rattle.std.proofs.Common.{◌≡◌, ℕ, ◌+◌, true, false, List, [], �
 use Rattle.std.specs.Prelude.{nat_lt, option_and_then}
 use Rattle.std.specs.List.{list_all}
 use Rattle.std.proofs.lemmas.Bool.{and_parts}
+use Rattle.std.proofs.lemmas.List.Elements.{All-nil, All-cons, All-append}
 use Rattle.std.proofs.lemmas.Bool.Decides.{nat_tests}
 use Rattle.yarn_blocks.specs.declared.body_line.Spot.{Spot}
 use Rattle.yarn_blocks.specs.declared.entry.Entry.{Entry}
@@ -12,7 +13,8 @@ use Rattle.yarn_blocks.specs.declared.tree.Stmt.{Stmt, Line, Options', If', Set,
 use Rattle.yarn_blocks.specs.Tree.{Stmts, Nil, Cons, Leaf, stmts_then}
 use Rattle.yarn_blocks.specs.View.{stmt_of, stmts_of}
 use Rattle.yarn_blocks.specs.Entries.{marks_of}
-use Rattle.yarn_blocks.specs.BodyLines.{is_leaf, leaf_of, entry_at, entries_at, AreLines}
+use Rattle.yarn_blocks.specs.BodyLines.{is_leaf, leaf_of, entry_at, entries_at, IsBare, AreMarked, AreLines}
+use Rattle.yarn_blocks.specs.BodyLine.{IsBareWhat, Passed}
 use Rattle.yarn_blocks.specs.Reading.{go, step, finish, read}
 use Rattle.yarn_blocks.specs.Building.{behind, read_behind}
 use Rattle.yarn_blocks.specs.Outline.{verdict_behind, verdict_in}
@@ -30,12 +32,40 @@ leaves-end (t ∷ ss) s all one =
     let both = and_parts (is_leaf t) (list_all is_leaf ss) all in
     rw (both.0, leaves-end ss s both.1 one) refl
 
+marked-end : (ss : List Stmt) (ps : List Spot) (s : Stmt) (p : Spot) → AreMarked ss ps → (p.is_bare ≡ true → IsBare s) → length ss ≡ length ps → AreMarked (ss ++ s ∷ []) (ps ++ p ∷ [])
+marked-end [] [] s p marked one e = (one, tt)
+marked-end [] (q ∷ ps) s p marked one e = absurd (omega arith)
+marked-end (t ∷ ss) [] s p marked one e = absurd (omega arith)
+marked-end (t ∷ ss) (q ∷ ps) s p marked one e = (marked.0, marked-end ss ps s p marked.1 one (omega arith))
+
 -- one more statement with its place
-pub lines_more : (ss : List Stmt) (ps : List Spot) (s : Stmt) (p : Spot) → AreLines ss ps → is_leaf s ≡ true → AreLines (ss ++ s ∷ []) (ps ++ p ∷ [])
-lines_more ss ps s p are one = record {
+pub lines_more : (ss : List Stmt) (ps : List Spot) (s : Stmt) (p : Spot) → AreLines ss ps → is_leaf s ≡ true → (p.is_bare ≡ true → IsBare s) → AreLines (ss ++ s ∷ []) (ps ++ p ∷ [])
+lines_more ss ps s p are one bare = record {
   as_many = omega (arith, are.as_many, length-append ss (s ∷ []), length-append ps (p ∷ []));
   leaves = leaves-end ss s are.leaves one;
+  marked = marked-end ss ps s p are.marked bare are.as_many;
 }
+
+-- one line more that is bare is passed
+pub pass_more : (all : List Entry) (s : Stmt) (ss : List Stmt) (p : Spot) (ps : List Spot) (rest : List Entry) →
+    Passed all (entries_at (s ∷ ss) (p ∷ ps) ++ rest) → IsBare s → Passed all (entries_at ss ps ++ rest)
+pass_more all s ss p ps rest passed is = record {
+  bare = passed.bare ++ entry_at s p ∷ [];
+  split = passed.split ∙ sym (append_assoc passed.bare (entry_at s p ∷ []) (entries_at ss ps ++ rest));
+  are_bare = All-append (λ (x : Entry). IsBareWhat x.what) passed.bare (entry_at s p ∷ []) passed.are_bare (All-cons (λ (x : Entry). IsBareWhat x.what) (entry_at s p) [] (of s is) (All-nil (λ (x : Entry). IsBareWhat x.what)));
+}
+  where
+    of : (s : Stmt) → IsBare s → IsBareWhat (what.Statement (leaf_of s))
+    of (Line text) is = is
+    of (Options' n os) is = absurd is
+    of (If' n cs last e) is = absurd is
+    of (Set head name op v) is = absurd is
+    of (Declare head name value kind) is = absurd is
+    of (Jump head title) is = absurd is
+    of (JumpTo head v) is = absurd is
+    of (Stop head) is = absurd is
+    of (Call head v) is = absurd is
+    of (Command text) is = absurd is
 
 -- where nothing is open, no line is too little deep
 no-test : (i : ℕ) → nat_lt i 0 ≡ false

@@ -9,6 +9,8 @@ pub struct Spot {
     /// Its line, counted from 1.
     pub line: u32,
     pub indent: u32,
+    /// Whether its statement is said to be bare.
+    pub is_bare: bool,
 }
 
 /// What a line of a body is.

@@ -1,8 +1,9 @@
 //! The lines of a body while no tree is made of them.
-ghost use Rattle.std.specs.Prelude.{◌≡◌, ◌++◌, ◌∷◌, [], length, IfOk, OnOk, OnErr, is_ok, if◌then◌else◌};
+ghost use Rattle.std.specs.Prelude.{◌≡◌, ◌++◌, ◌∷◌, [], true, length, IfOk, OnOk, OnErr, is_ok, if◌then◌else◌};
 ghost use Rattle.yarn_blocks.specs.declared.entry.Simple.TheVariants as simple;
 ghost use Rattle.yarn_blocks.specs.declared.entry.What.TheVariants as what;
-ghost use Rattle.yarn_blocks.specs.BodyLine.{TakesFirst};
+ghost use Rattle.yarn_blocks.specs.BodyLine.{TakesFirst, TakesNotable, Passed};
+ghost use Rattle.yarn_blocks.specs.BodyLines.{IsBareText};
 ghost use Rattle.yarn_blocks.specs.Building.{read_behind};
 ghost use Rattle.yarn_blocks.specs.Entries.{marks_of};
 ghost use Rattle.yarn_blocks.specs.Outline.{verdict_in};
@@ -46,7 +47,15 @@ impl Model for BodyLines {
     ghost invariant = { λ b. AreLines b.stmts.items b.spots.items };
 }
 
+// Whether a line that is said has neither substitutions nor hashtags.
+fn is_bare_text(text: &LineText) -> bool
+    ensures { result ≡ true → IsBareText text.now }
+{
+    text.holes.is_empty() && text.tags.is_empty()
+}
+
 /// One more statement.
+#[inline(always)]
 fn put_stmt(stmts: &mut Vec<Stmt>, stmt: Stmt) -> Result<(), Memory>
     ensures ok { OnOk result (stmts.new.items ≡ stmts.old.items ++ stmt ∷ []) }
     ensures err { OnErr result (stmts.new.items ≡ stmts.old.items) }
@@ -56,6 +65,7 @@ fn put_stmt(stmts: &mut Vec<Stmt>, stmt: Stmt) -> Result<(), Memory>
 }
 
 /// One more statement with its place; both or none.
+#[inline(always)]
 fn put(stmts: &mut Vec<Stmt>, spots: &mut Vec<Spot>, stmt: Stmt, spot: Spot) -> Result<(), Memory>
     ensures stmts { stmts.new.items ≡ (if is_ok result then stmts.old.items ++ stmt ∷ [] else stmts.old.items) }
     ensures spots { spots.new.items ≡ (if is_ok result then spots.old.items ++ spot ∷ [] else spots.old.items) }
@@ -101,7 +111,6 @@ impl BodyLines {
     }
 
     /// Puts a line that is a statement last.
-    #[tactic(auto, using(crate::proofs::BodyLineLemmas::lines_more))]
     pub fn push_statement(
         &mut self,
         line: u32,
@@ -117,13 +126,16 @@ impl BodyLines {
                 what: What::Statement(statement),
             });
         }
-        let spot = Spot { line, indent };
+        let spot = Spot {
+            line,
+            indent,
+            is_bare: false,
+        };
         put(&mut self.stmts, &mut self.spots, leaf(statement), spot)?;
         Ok(())
     }
 
     /// Puts a line that is said last, as most are.
-    #[tactic(auto, using(crate::proofs::BodyLineLemmas::lines_more))]
     pub fn push_line(&mut self, line: u32, indent: u32, text: LineText) -> Result<(), Memory>
         ensures { OnOk result (self.new ≡ self.old ++ (record { line = line; indent = indent; what = what.Statement (simple.Line text) }) ∷ []) }
     {
@@ -131,7 +143,11 @@ impl BodyLines {
             let what = What::Statement(Simple::Line(text));
             return self.push_rest(Entry { line, indent, what });
         }
-        let spot = Spot { line, indent };
+        let spot = Spot {
+            line,
+            indent,
+            is_bare: is_bare_text(&text),
+        };
         put(&mut self.stmts, &mut self.spots, Stmt::Line(text), spot)?;
         Ok(())
     }
@@ -193,11 +209,11 @@ impl<'a> Model for LinesLeft<'a> {
 
     ghost coded = { Prim.hlevel (codes, expr.the_row.coded) };
 
-    ghost use Rattle.yarn_blocks.specs.BodyLines.{entries_at};
+    ghost use Rattle.yarn_blocks.specs.BodyLines.{entries_at, AreMarked};
 
     ghost view = { λ l. entries_at l.stmts.now l.spots.now ++ l.rest.now };
 
-    ghost invariant = { λ l. length l.stmts.now ≡ length l.spots.now };
+    ghost invariant = { λ l. (length l.stmts.now ≡ length l.spots.now) × AreMarked l.stmts.now l.spots.now };
 }
 
 impl<'a> LinesLeft<'a> {
@@ -224,5 +240,28 @@ impl<'a> LinesLeft<'a> {
             indent: first.indent,
             what: BodyWhat::Structure(&first.what),
         })
+    }
+    /// The next line that may be more than a said one without substitutions and hashtags; nothing where none is left.
+    pub fn take_notable(&mut self) -> Option<BodyLine<'a>>
+        ensures { TakesNotable self.old result self.new }
+    {
+        self.pass_bare();
+        self.take_first()
+    }
+
+    // Passes the lines in front that are marked as bare.
+    fn pass_bare(&mut self)
+        ensures { Passed self.old self.new }
+    {
+        while let (Some((_, stmts)), Some((spot, spots))) = (
+            self.stmts.split_first(),
+            self.spots.split_first(),
+        ) {
+            if !spot.is_bare {
+                return;
+            }
+            self.stmts = stmts;
+            self.spots = spots;
+        }
     }
 }

@@ -74,6 +74,7 @@ impl Draft {
     }
 
     /// Takes a line that is said; it has an id where ids are wanted.
+    #[inline(always)]
     pub(crate) fn take_line(
         &mut self,
         alloc: Global,
@@ -134,6 +135,7 @@ impl Draft {
     }
 
     // What is said with the next id; it is counted.
+    #[inline(always)]
     fn next_text(
         &mut self,
         alloc: Global,

@@ -130,7 +130,7 @@ fn has_own_in(body: &BodyLines) -> bool
     ensures { result ≡ own_in body.now }
 {
     let mut left = body.lines();
-    while let Some(found) = left.take_first() {
+    while let Some(found) = left.take_notable() {
         if is_named(found.what) {
             return true;
         }

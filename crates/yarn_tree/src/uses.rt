@@ -92,7 +92,7 @@ impl<'a> Uses<'a> {
         ensures { OnOk result (self.new ≡ self.old ++ uses_in_body file body.now) }
     {
         let mut left = body.lines();
-        while let Some(found) = left.take_first() {
+        while let Some(found) = left.take_notable() {
             let place = Place {
                 file,
                 line: found.line,
