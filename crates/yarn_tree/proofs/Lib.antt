@@ -29,3 +29,4 @@ pub mod PlaceLaws
 pub mod TitleLaws
 pub mod UsesLemmas
 pub mod VariableLemmas
+pub mod NotableLemmas
