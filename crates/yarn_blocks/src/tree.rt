@@ -67,12 +67,12 @@ pub struct Head {
 pub struct LineText {
     /// Its line, counted from 1.
     pub line: u32,
-    /// The id under which string tables know it; empty in a file that is read alone.
-    pub id: LineId,
     /// The text as string tables have it, with `{k}` for the hole at place k, from 0.
     pub text: Text,
     /// The values that are put in.
     pub holes: List<Expr>,
+    /// The id under which string tables know it; empty in a file that is read alone.
+    pub id: LineId,
     /// Its hashtags, without their `#`.
     pub tags: List<Text>,
 }

@@ -65,12 +65,27 @@ fn variables(alloc: Global, typing: &Typing, files: &[File]) -> Result<Vec<Varia
     ensures { IfOk result (λ all. pairs_of all.items ≡ variables_of typing.now.entries (map file_tree files.now)) }
 {
     let mut all = Vec::new(alloc);
-    let declared = declared(alloc, files)?;
-    add_typed(alloc, &mut all, &declared, typing.entries.as_slice())?;
+    add_first(alloc, &mut all, typing.entries.as_slice(), files)?;
     for file in files {
         add_counts(alloc, &mut all, file.nodes.as_slice())?;
     }
     Ok(all)
+}
+
+// The typed variables with their first values. Where there are none, no declaration is looked for.
+fn add_first(
+    alloc: Global,
+    all: &mut Vec<Variable>,
+    entries: &[TypedName],
+    files: &[File],
+) -> Result<(), Memory>
+    ensures { OnOk result (pairs_of all.new.items ≡ pairs_of all.old.items ++ typed_pairs (declared_in_files (map file_tree files.now)) entries.now) }
+{
+    if entries.is_empty() {
+        return Ok(());
+    }
+    let declared = declared(alloc, files)?;
+    add_typed(alloc, all, &declared, entries)
 }
 
 fn add_typed(
