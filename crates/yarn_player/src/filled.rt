@@ -25,6 +25,7 @@ pub(crate) fn push_filled(
 }
 
 // The same of a text that may have placeholders or escaped braces; one that is no template stands as it is.
+#[inline(never)]
 fn push_template(
     alloc: Global,
     bytes: &mut Vec<u8>,

@@ -123,6 +123,7 @@ fn step<'p, I: Source, O: Sink>(
 }
 
 // Gives the event that comes where that number is answered.
+#[inline(never)]
 fn answer<'p>(
     alloc: Global,
     walk: &mut Walk<'p>,
@@ -162,6 +163,7 @@ fn show<'p>(
 }
 
 // The same, whatever the event is.
+#[inline(never)]
 fn show_turn<'p>(
     alloc: Global,
     walk: &mut Walk<'p>,
