@@ -8,7 +8,7 @@ use std::sync::ledger::{Blank, Ledger};
 use std::test::Fail;
 use yarn_base::{List, Memory, Place, Steps, Text};
 use yarn_expr::Expr;
-use yarn_tree::{Clause, ElseClause, File, Head, Node, Project, Stmt};
+use yarn_tree::{Body, Clause, ElseClause, File, Head, Node, Project, Stmt};
 use yarn_value::{Kind, Signatures, Value};
 
 // What is answered of the project, and of the kind of one variable.
@@ -97,7 +97,7 @@ fn file_of(alloc: Global, statement: Stmt) -> Result<File, Memory> {
         headers: List::new(alloc),
         line: 2,
         end_line: 8,
-        body,
+        body: Body::new(body),
     };
     let mut nodes = List::new(alloc);
     nodes.push(node).map_err(|_| Memory)?;

@@ -8,7 +8,7 @@ ghost use Rattle.yarn_infer.specs.Units.{unit_at, values_unit, offer_units, stmt
 use std::alloc::Global;
 use yarn_base::{Memory, Place};
 use yarn_expr::Expr;
-use yarn_tree::{Clause, ElseClause, LineText, Node, OptionItem, Project, Stmt};
+use yarn_tree::{Body, Clause, ElseClause, LineText, Node, OptionItem, Project, Stmt};
 use yarn_types::{Asks, TypeUnit};
 
 /// The lines in order of the text. `Memory` also where the place of a file doesn't fit in 32 bits.
@@ -28,9 +28,23 @@ fn push_nodes<'p>(units: &mut Vec<TypeUnit<'p>>, file: u32, nodes: &'p [Node]) -
     ensures { OnOk result (map unit_of units.new.items ≡ map unit_of units.old.items ++ nodes_units file (map node_tree nodes.now)) }
 {
     for node in nodes {
-        push_body(units, file, node.body.as_slice())?;
+        push_node(units, file, &node.body)?;
     }
     Ok(())
+}
+
+/// Adds the lines of a node. Lines without substitutions ask nothing.
+fn push_node<'p>(
+    units: &mut Vec<TypeUnit<'p>>,
+    file: u32,
+    body: &'p Body,
+) -> Result<(), Memory>
+    ensures { OnOk result (map unit_of units.new.items ≡ map unit_of units.old.items ++ stmts_units file (stmts_of body.now)) }
+{
+    if body.is_bare() {
+        return Ok(());
+    }
+    push_body(units, file, body.as_slice())
 }
 
 /// Adds the lines of a body to those before it.

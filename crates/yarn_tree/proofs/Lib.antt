@@ -30,3 +30,4 @@ pub mod TitleLaws
 pub mod UsesLemmas
 pub mod VariableLemmas
 pub mod NotableLemmas
+pub mod BareLemmas

@@ -15,3 +15,4 @@ pub mod End
 pub mod Scan
 pub mod Splitter
 pub mod Laws
+pub mod Bare

@@ -4,10 +4,9 @@ ghost use Rattle.yarn_tree.specs.Growing.{HasShallowBody, HasShallowBodies};
 ghost use Rattle.yarn_tree.specs.Project.{IsNodeOf, AreNodesOf, IsFileOf, AreFilesOf};
 ghost use Rattle.yarn_tree.specs.Reading.{lines_in};
 
-use crate::{File, Node};
+use crate::{Body, File, Node};
 use std::alloc::Global;
 use yarn_base::{List, Memory};
-use yarn_blocks::build;
 use yarn_nodes::{FileLines, FileRead, NodeLines};
 
 /// The trees of the files.
@@ -54,7 +53,7 @@ fn grow_node(alloc: Global, lines: NodeLines) -> Result<Node, Memory>
         end_line,
         body,
     } = lines;
-    let body = build(alloc, body)?;
+    let body = Body::of(alloc, body)?;
     Ok(Node {
         title,
         headers,

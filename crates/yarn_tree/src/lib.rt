@@ -1,6 +1,7 @@
 //! The trees of a project's files, or the first fault of the project.
 #![tactic(auto)]
 
+mod body;
 mod checks;
 mod end;
 mod excess;
@@ -19,6 +20,7 @@ mod tree;
 mod uses;
 mod variables;
 
+pub use body::Body;
 pub use end::text_end;
 pub use read::{read_file, read_project};
 pub use refusal::{ProjectFault, Refusal, RefusalKind};

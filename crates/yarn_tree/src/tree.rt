@@ -1,5 +1,5 @@
+use crate::body::Body;
 use yarn_base::{List, Text};
-use yarn_blocks::Stmt;
 use yarn_items::Header;
 
 /// The files of a conversation.
@@ -27,5 +27,5 @@ pub struct Node {
     pub line: u32,
     /// The line of its `===`.
     pub end_line: u32,
-    pub body: List<Stmt>,
+    pub body: Body,
 }
