@@ -1,8 +1,7 @@
 -- What the lines of a text tell of its file.
 use Rattle.std.proofs.Common.{◌≡◌, ℕ, List, drop, Result, Ok, Err, IsUtf8}
-use Rattle.yarn_lines.specs.Lines.{mark_length}
+use Rattle.yarn_lines.specs.Lines.{Lines, mark_length}
 use Rattle.yarn_lines.specs.Fault.{Splits, SplitsText}
-use Rattle.yarn_lines.specs.declared.line.Lines.{Lines}
 use Rattle.yarn_lines.specs.declared.line.LineFault.{LineFault}
 use Rattle.yarn_lines.specs.declared.line.LineFault.TheVariants.{BadUtf8, LineTooLong, Memory}
 use Rattle.yarn_lines.proofs.Utf8Lemmas.{first_bad-none}

@@ -6,3 +6,4 @@ pub mod LfLemmas
 pub mod CutLemmas
 pub mod MarkLemmas
 pub mod TakingLemmas
+pub mod ShortLemmas

@@ -17,6 +17,7 @@ pub record Step (whole piece : List ℕ) (at number : ℕ) : Type 0 where
   pub utf8 : IsUtf8 piece
   pub lines : lines_from number at (pieces_of (drop at whole))
       ≡ with_line number at piece (lines_from (number + 1) (at + (length piece + 1)) (pieces_of (drop (at + (length piece + 1)) whole)))
+  pub count : length (pieces_of (drop at whole)) ≡ length (pieces_of (drop (at + (length piece + 1)) whole)) + 1
   pub left : AreLeft whole (at + (length piece + 1)) (number + 1)
 
 pub step : (whole piece : List ℕ) (at number : ℕ) → AreLeft whole at number → at < length whole →
@@ -38,6 +39,7 @@ step whole piece at number left lt is =
       within = omega (arith, size, length_to_lf-le rest, length-drop at whole);
       utf8 = subst IsUtf8 (sym is) utf8.0;
       lines = ap (lines_from number at) pieces ∙ ap (λ n. with_line number at piece (lines_from (number + 1) n pieces_behind)) next;
+      count = omega (arith, ap length pieces);
       left = record { utf8 = subst IsUtf8 behind utf8.1; small = left.small; count = omega (arith, left.count); short = short.1 };
     }
 

@@ -1,8 +1,7 @@
 -- What cutting a file into lines answers.
 use Rattle.std.specs.Str.{is_utf8}
 use Rattle.std.specs.Prelude.{◌≡◌, ◌+◌, ℕ, List, length, Bool, if◌then◌else◌, true, false, Option, Some, None, Result, Ok, Err, ⊤}
-use Rattle.yarn_lines.specs.Lines.{lines_of, lines_from, pieces_of, pieces_in, first_from, is_long}
-use Rattle.yarn_lines.specs.declared.line.Lines.{Lines}
+use Rattle.yarn_lines.specs.Lines.{Lines, lines_of, lines_from, pieces_of, pieces_in, first_from, is_long}
 use Rattle.yarn_lines.specs.declared.line.LineFault.{LineFault}
 use Rattle.yarn_lines.specs.declared.line.LineFault.TheVariants.{BadUtf8, LineTooLong, Memory}
 
@@ -31,9 +30,3 @@ SplitsText at text (Ok lines) = (first_from is_long 1 (pieces_of text) ≡ None)
 SplitsText at text (Err (BadUtf8 number)) = ⊥
 SplitsText at text (Err (LineTooLong number)) = first_from is_long 1 (pieces_of text) ≡ Some number
 SplitsText at text (Err Memory) = ⊤
-
--- the place of the end of a text, where none of its lines is long; else the first long one
-abbrev pub Ends : List ℕ → Result ℕ LineFault → Type 0
-Ends text (Ok end) = (first_from is_long 1 (pieces_of text) ≡ None) × (end ≡ length (pieces_of text) + 1)
-Ends text (Err (LineTooLong number)) = first_from is_long 1 (pieces_of text) ≡ Some number
-Ends text (Err _) = ⊥

@@ -3,7 +3,11 @@ use Rattle.std.specs.Prelude.{ℕ, ◌+◌, List, [], ◌∷◌, length, drop, t
 use Rattle.std.specs.List.{list_all}
 use Rattle.std.specs.Cmp.Lexicographic.{pointwise}
 use Rattle.yarn_lines.specs.declared.line.RawLine.{RawLine}
-use Rattle.yarn_lines.specs.declared.line.Lines.{Lines}
+
+-- the lines of a file that count and aren't taken yet, and the place of its end: the number of all its lines and one more
+pub record Lines : Type 0 where
+  pub lines : List RawLine
+  pub end : ℕ
 
 -- the byte stands at the front of the first piece
 abbrev pub onto : ℕ → List (List ℕ) → List (List ℕ)

@@ -1,12 +1,13 @@
-//! The lines of a whole file: first whether it is UTF-8, then one pass that counts its lines and finds one that is too
-//! long.
-ghost use Rattle.std.specs.Prelude.{◌≡◌, ◌+◌, ◌≤◌, ◌<◌, length, drop, IsUtf8, Some, string_bytes};
+//! The lines of a whole file: first whether it is UTF-8, then whether a line is too long, by steps that are as long as the
+//! longest line.
+ghost use Rattle.std.specs.Prelude.{◌≡◌, ◌+◌, ◌≤◌, length, drop, true, IsUtf8, Some, None, string_bytes};
 ghost use Rattle.std.specs.Str.{is_utf8};
-ghost use Rattle.yarn_lines.specs.Lines.{mark_length, pieces_of, first_from};
-ghost use Rattle.yarn_lines.specs.Fault.{Splits, SplitsText, Ends, is_bad};
+ghost use Rattle.yarn_lines.specs.Lines.{mark_length, pieces_of, first_from, is_long};
+ghost use Rattle.yarn_lines.specs.Fault.{Splits, SplitsText, is_bad};
 
 use crate::piece::first_piece;
-use crate::{LineFault, Lines, RawLines};
+use crate::{LineFault, Lines};
+use memchr::memrchr;
 use std::alloc::Global;
 use yarn_base::{List, WholeText};
 
@@ -98,27 +99,52 @@ fn split_body(whole: WholeText, start: usize) -> Result<Lines, LineFault>
     requires utf8 { IsUtf8 (drop start whole) }
     ensures { SplitsText start (drop start whole) result }
 {
-    let end = end_of(&whole.as_str().as_bytes()[start..])?;
-    Ok(Lines {
-        lines: RawLines::behind(whole, start),
-        end,
-    })
+    match long_line(&whole.as_str().as_bytes()[start..]) {
+        Some(number) => Err(LineFault::LineTooLong(number)),
+        None => Ok(Lines::behind(whole, start)),
+    }
 }
 
-// The number of the lines and one more. An `Err` is the first that is too long.
-fn end_of(bytes: &[u8]) -> Result<u32, LineFault>
+// The number of the first line that is too long.
+fn long_line(bytes: &[u8]) -> Option<u32>
     requires { length bytes.now ≤ 1073741824 }
-    ensures { Ends bytes.now result }
+    ensures { result ≡ first_from is_long 1 (pieces_of bytes.now) }
+{
+    if are_short(bytes) {
+        None
+    } else {
+        first_long_line(bytes)
+    }
+}
+
+// Whether no line is too long. Each step goes behind the last LF of as many bytes as the longest line has with its own.
+fn are_short(bytes: &[u8]) -> bool
+    ensures { result ≡ true → first_from is_long 1 (pieces_of bytes.now) ≡ None }
+{
+    let mut rest = bytes;
+    while rest.len() > LONGEST_LINE {
+        match memrchr(b'\n', &rest[..LONGEST_LINE + 1]) {
+            Some(at) => rest = &rest[at + 1..],
+            None => return false,
+        }
+    }
+    true
+}
+
+// The same, line by line.
+fn first_long_line(bytes: &[u8]) -> Option<u32>
+    requires { length bytes.now ≤ 1073741824 }
+    ensures { result ≡ first_from is_long 1 (pieces_of bytes.now) }
 {
     let mut number = 1;
     let mut rest = bytes;
     while !rest.is_empty() {
         let (piece, after) = first_piece(rest);
         if piece.len() > LONGEST_LINE {
-            return Err(LineFault::LineTooLong(number));
+            return Some(number);
         }
         number += 1;
         rest = after;
     }
-    Ok(number)
+    None
 }

@@ -22,18 +22,10 @@ pub struct RawLine {
     pub text: Text,
 }
 
-/// The lines of a file that count, in order.
+/// The lines of a file that count, in order, which aren't taken yet, and the place of its end. Contracts see both; each
+/// line is cut out of the file when it is taken.
 #[derive(Debug, Drop)]
 pub struct Lines {
-    pub lines: RawLines,
-    /// The number of lines and one more: the place of the file's end.
-    pub end: u32,
-}
-
-/// The lines of a file that count, in order, which aren't taken yet. Contracts see the list of them; each is cut out of
-/// the file when it is taken.
-#[derive(Debug, Drop)]
-pub struct RawLines {
     whole: WholeText,
     /// Where in it the lines begin that aren't looked at yet.
     at: usize,
@@ -41,27 +33,27 @@ pub struct RawLines {
     number: u32,
 }
 
-impl Model for RawLines {
-    ghost use Rattle.std.specs.Prelude.{List, drop};
-    ghost use Rattle.yarn_lines.specs.declared.line.RawLine.{RawLine};
+impl Model for Lines {
+    ghost use Rattle.yarn_lines.specs.Lines.{Lines};
 
-    ghost Value = { List RawLine };
+    ghost Value = { Lines };
 
+    ghost use Rattle.std.specs.Prelude.{◌+◌, drop, length};
     ghost use Rattle.yarn_lines.specs.Lines.{lines_from, pieces_of};
     ghost use Rattle.yarn_lines.specs.Taking.{AreLeft};
 
-    ghost view = { λ l. lines_from l.number l.at (pieces_of (drop l.at l.whole)) };
+    ghost view = { λ l. record { lines = lines_from l.number l.at (pieces_of (drop l.at l.whole)); end = l.number + length (pieces_of (drop l.at l.whole)) } };
 
     ghost invariant = { λ l. AreLeft l.whole l.at l.number };
 }
 
-impl RawLines {
+impl Lines {
     // The lines behind that place of a text, the first of them having the number 1.
-    pub(crate) fn behind(whole: WholeText, at: usize) -> RawLines
+    pub(crate) fn behind(whole: WholeText, at: usize) -> Lines
         requires { AreLeft whole at 1 }
-        ensures { result ≡ lines_from 1 at (pieces_of (drop at whole)) }
+        ensures { result ≡ record { lines = lines_from 1 at (pieces_of (drop at whole)); end = length (pieces_of (drop at whole)) + 1 } }
     {
-        RawLines {
+        Lines {
             whole,
             at,
             number: 1,
@@ -70,7 +62,8 @@ impl RawLines {
 
     /// Takes the next line; nothing where none is left. An `Err` leaves the lines.
     pub fn take_first(&mut self) -> Result<Option<RawLine>, Memory>
-        ensures { Takes self.old result self.new }
+        ensures lines { Takes self.old.lines result self.new.lines }
+        ensures end { self.new.end ≡ self.old.end }
     {
         while self.at < self.whole.as_str().len() {
             let piece = piece_at(&self.whole, self.at);
@@ -82,6 +75,19 @@ impl RawLines {
             }
         }
         Ok(None)
+    }
+
+    /// The number of lines of the file and one more: the place of its end.
+    pub fn into_end(self) -> u32
+        ensures { result ≡ self.end }
+    {
+        let mut at = self.at;
+        let mut end = self.number;
+        while at < self.whole.as_str().len() {
+            at += piece_at(&self.whole, at).len() + 1;
+            end += 1;
+        }
+        end
     }
 }
 

@@ -29,12 +29,11 @@ fn expect_lines(
 ) -> Result<(), Memory> {
     assert!(rt; file.len() <= 1073741824);
     let shown = file.as_slice();
-    let Ok(mut found) = split(alloc, file) else {
+    let Ok(mut lines) = split(alloc, file) else {
         panic!(rt; "no lines of {shown:?}");
     };
-    assert_eq!(rt; found.end, end, "of {shown:?}");
     for (number, indent, at, text) in expected {
-        let Some(line) = found.lines.take_first()? else {
+        let Some(line) = lines.take_first()? else {
             panic!(rt; "too few lines of {shown:?}");
         };
         assert_eq!(rt; line.number, *number, "of {shown:?}");
@@ -43,9 +42,10 @@ fn expect_lines(
         assert_eq!(rt; line.text.as_str(), *text, "of {shown:?}");
     }
     assert!(rt;
-        found.lines.take_first()?.is_none(),
+        lines.take_first()?.is_none(),
         "too many lines of {shown:?}"
     );
+    assert_eq!(rt; lines.into_end(), end, "of {shown:?}");
     Ok(())
 }
 

@@ -1,6 +1,6 @@
 use Rattle.std.proofs.Common.{length, sym, ap, ◌∙◌, arith}
 use Rattle.yarn_lines.proofs.TakingLemmas.{step, takes, skips}
-use Rattle.yarn_lines.proofs.line.RawLines.take_first.Goals as goal
+use Rattle.yarn_lines.proofs.line.Lines.take_first.Goals as goal
 
 pub line_in-requires-clause-short : goal.line_in-requires-clause-short
 line_in-requires-clause-short c =
@@ -24,8 +24,11 @@ pub returns-then-is_some : goal.returns-then-is_some
 returns-then-is_some c =
     let next = step c.loop-self.self-inside.whole c.piece_at-piece.result.now c.loop-self.self-inside.at c.loop-self.self-inside.number
     c.loop-self.invariant.left (omega (arith, ap length c.as_str.ensures)) c.piece_at-piece.ensures in
-    takes c.loop-self.self-inside.whole c.piece_at-piece.result.now c.loop-self.self-inside.at c.loop-self.self-inside.number
-    c.args.self.now c.in_ok-line.line next c.loop-self.invariant.same c.in_ok-line.ensures (sym c.is_some.ensures ∙ c.if-is_some.true)
+    record {
+      lines = takes c.loop-self.self-inside.whole c.piece_at-piece.result.now c.loop-self.self-inside.at c.loop-self.self-inside.number
+          c.args.self.now.lines c.in_ok-line.line next c.loop-self.invariant.same c.in_ok-line.ensures (sym c.is_some.ensures ∙ c.if-is_some.true);
+      end = omega (arith, c.loop-self.invariant.end, next.count);
+    }
 
 pub loop-self-preserved : goal.loop-self-preserved
 loop-self-preserved c =
@@ -34,5 +37,6 @@ loop-self-preserved c =
     record {
       left = next.left;
       same = skips c.loop-self.self-inside.whole c.piece_at-piece.result.now c.loop-self.self-inside.at c.loop-self.self-inside.number
-          c.args.self.now c.in_ok-line.line next c.loop-self.invariant.same c.in_ok-line.ensures (sym c.is_some.ensures ∙ c.if-is_some.false);
+          c.args.self.now.lines c.in_ok-line.line next c.loop-self.invariant.same c.in_ok-line.ensures (sym c.is_some.ensures ∙ c.if-is_some.false);
+      end = omega (arith, c.loop-self.invariant.end, next.count);
     }

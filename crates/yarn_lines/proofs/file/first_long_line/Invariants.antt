@@ -1,11 +1,10 @@
 use Rattle.std.proofs.Common.{◌≡◌, ◌+◌, ◌≤◌, length}
 use Rattle.yarn_lines.specs.Lines.{pieces_of, first_from, is_long}
-use Rattle.yarn_lines.proofs.file.end_of.Given as goal
+use Rattle.yarn_lines.proofs.file.first_long_line.Given as goal
 
 abbrev pub invariant-loop-rest : goal.invariant-loop-rest
 invariant-loop-rest l = record {
-  same_long : first_from is_long l.number (pieces_of l.rest) ≡ first_from is_long 1 (pieces_of l.bytes);
-  same_end : l.number + length (pieces_of l.rest) ≡ 1 + length (pieces_of l.bytes);
+  same : first_from is_long l.number (pieces_of l.rest) ≡ first_from is_long 1 (pieces_of l.bytes);
   count : l.number + length l.rest ≤ 1 + length l.bytes;
 }
 
