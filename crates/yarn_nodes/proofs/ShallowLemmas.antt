@@ -27,7 +27,7 @@ use Rattle.yarn_nodes.specs.Finds.{items_from}
 use Rattle.yarn_nodes.specs.Nodes.{no_draft, header_taken, and_what, counted, draft_behind, nodes_from, node_of, and_node, next_id}
 use Rattle.yarn_nodes.specs.Reader.{file_of}
 use Rattle.yarn_nodes.specs.Structure.{header_behind, stand_behind, and_mark, marks_behind, body_fault, end_fault, misplaced_at, first_misplaced, deep_in, shown_at, first_shown}
-use Rattle.yarn_lines.specs.declared.line.Lines.{Lines}
+use Rattle.yarn_lines.specs.Lines.{Lines}
 
 abbrev HasShallowBody : NodeLines → Type 0
 HasShallowBody node = IsShallow node.body

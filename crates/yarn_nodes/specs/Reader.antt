@@ -1,6 +1,6 @@
 -- What the lines of a file make, and what those that are left make of what was read (docs/language.md, Nodes).
 use Rattle.std.specs.Prelude.{ℕ, List, [], Bool, false}
-use Rattle.yarn_lines.specs.declared.line.Lines.{Lines}
+use Rattle.yarn_lines.specs.Lines.{Lines}
 use Rattle.yarn_items.specs.declared.item.Mode.TheVariants.{InHeaders}
 use Rattle.yarn_nodes.specs.declared.node.FileRead.{FileRead}
 use Rattle.yarn_nodes.specs.declared.node.Notes.{Notes}

@@ -215,12 +215,12 @@ pub fn read_lines(
 ) -> Result<FileRead, Memory>
     ensures { IfOk result (λ read. read ≡ file_of ids number name lines) }
 {
-    let Lines { mut lines, end } = lines;
+    let mut lines = lines;
     let mut reader = Reader::new(alloc, ids);
     while let Some(line) = lines.take_first()? {
         reader.take(alloc, line)?;
     }
-    reader.finish(alloc, number, name, end)
+    reader.finish(alloc, number, name, lines.into_end())
 }
 
 // What is said by a text as it stands.

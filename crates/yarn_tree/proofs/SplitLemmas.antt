@@ -2,7 +2,7 @@
 use Rattle.std.proofs.Common.{◌≡◌, ℕ, ◌+◌, List, [], ◌∷◌, ◌++◌, Option, Some, None, Result, Ok, Err, OnOk, IfErr, MatchResult, refl, sym, ap, ◌∙◌, subst, append_assoc}
 use Rattle.yarn_base.specs.declared.Place.{Place}
 use Rattle.yarn_base.specs.declared.SourceFile.{SourceFile}
-use Rattle.yarn_lines.specs.declared.line.Lines.{Lines}
+use Rattle.yarn_lines.specs.Lines.{Lines}
 use Rattle.yarn_lines.specs.Lines.{lines_of}
 use Rattle.yarn_tree.specs.declared.refusal.ProjectFault.{ProjectFault}
 use Rattle.yarn_tree.specs.declared.refusal.ProjectFault.TheVariants.{Memory}

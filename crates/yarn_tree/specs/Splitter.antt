@@ -1,7 +1,7 @@
 -- What the files that are left make of those that were cut into lines.
 use Rattle.std.specs.Prelude.{ℕ, ◌+◌, List, [], ◌∷◌, ◌++◌, Some, None}
 use Rattle.yarn_base.specs.declared.SourceFile.{SourceFile}
-use Rattle.yarn_lines.specs.declared.line.Lines.{Lines}
+use Rattle.yarn_lines.specs.Lines.{Lines}
 use Rattle.yarn_tree.specs.declared.refusal.RefusalKind.TheVariants.{BadUtf8, LineTooLong}
 use Rattle.yarn_tree.specs.declared.split.Splitter.{Splitter}
 use Rattle.yarn_tree.specs.declared.stages.SplitFile.{SplitFile}
