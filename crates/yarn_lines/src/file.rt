@@ -105,7 +105,7 @@ fn split_body(whole: WholeText, start: usize) -> Result<Lines, LineFault>
     }
 }
 
-// The number of the first line that is too long.
+// The number of the first line that is too long. Only a file that has one is looked at line by line.
 fn long_line(bytes: &[u8]) -> Option<u32>
     requires { length bytes.now ≤ 1073741824 }
     ensures { result ≡ first_from is_long 1 (pieces_of bytes.now) }
@@ -131,7 +131,7 @@ fn are_short(bytes: &[u8]) -> bool
     true
 }
 
-// The same, line by line.
+// The number of the first line that is too long, found line by line.
 fn first_long_line(bytes: &[u8]) -> Option<u32>
     requires { length bytes.now ≤ 1073741824 }
     ensures { result ≡ first_from is_long 1 (pieces_of bytes.now) }
