@@ -34,11 +34,7 @@ fn push_nodes<'p>(units: &mut Vec<TypeUnit<'p>>, file: u32, nodes: &'p [Node]) -
 }
 
 /// Adds the lines of a node. Lines without substitutions ask nothing.
-fn push_node<'p>(
-    units: &mut Vec<TypeUnit<'p>>,
-    file: u32,
-    body: &'p Body,
-) -> Result<(), Memory>
+fn push_node<'p>(units: &mut Vec<TypeUnit<'p>>, file: u32, body: &'p Body) -> Result<(), Memory>
     ensures { OnOk result (map unit_of units.new.items ≡ map unit_of units.old.items ++ stmts_units file (stmts_of body.now)) }
 {
     if body.is_bare() {

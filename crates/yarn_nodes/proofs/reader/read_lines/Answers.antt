@@ -7,6 +7,6 @@ loop-reader-preserved c =
     let taken : c.loop-reader.lines.lines ≡ c.in-Some.line ∷ c.take_first.new.self.lines = rw c.in-Some.is at c.in_ok-line.ensures.lines in
     record {
       read = sym (c.in_ok-take.ensures c.args.number c.args.name c.args.lines.end c.take_first.new.self.lines)
-      ∙ ap (read_on c.loop-reader.reader c.args.number c.args.name c.args.lines.end) (sym taken) ∙ c.loop-reader.invariant.read;
+          ∙ ap (read_on c.loop-reader.reader c.args.number c.args.name c.args.lines.end) (sym taken) ∙ c.loop-reader.invariant.read;
       same_end = c.take_first.ensures.end ∙ c.loop-reader.invariant.same_end;
     }
