@@ -12,7 +12,8 @@ use Rattle.yarn_base.specs.declared.SourceFile.{SourceFile}
 use Rattle.yarn_base.specs.Causes.{Rose}
 use Rattle.yarn_base.specs.Outside.{Named, HoldsAfter, ChangesOnly, WritesPart, put}
 use Rattle.yarn_base.proofs.Written.{WritesPart-none, append_known-nil}
-use Rattle.yarn_code.specs.Moments.{Pairs, Stand, Ended as IsEnded, Limit, Faults, Waits, Asks, BadReply}
+use Rattle.yarn_code.specs.Moments.{Stand, Ended as IsEnded, Limit, Faults, Waits, Asks, BadReply}
+use Rattle.yarn_value.specs.Pairs.{Pairs}
 use Rattle.yarn_infer.specs.Typings.{Kinding, Typed, Untyped, Open, IsKinding}
 use Rattle.yarn_meaning.specs.First.{Placed, find, first_of}
 use Rattle.yarn_meaning.specs.Texts.{base_of}

@@ -7,7 +7,8 @@ use Rattle.yarn_base.specs.declared.Place.{Place}
 use Rattle.yarn_base.specs.declared.SourceFile.{SourceFile}
 use Rattle.yarn_base.specs.Outside.{Named, put, ChangesOnly}
 use Rattle.yarn_code.specs.Moments as moments
-use Rattle.yarn_code.specs.Moments.{Pairs, State, Stand, Ended, Limit, Waits, Asks, BadReply}
+use Rattle.yarn_code.specs.Moments.{State, Stand, Ended, Limit, Waits, Asks, BadReply}
+use Rattle.yarn_value.specs.Pairs.{Pairs}
 use Rattle.yarn_meaning.specs.First.{first_of, find}
 use Rattle.yarn_meaning.specs.Texts.{base_of}
 use Rattle.yarn_meaning.specs.Variables.{variables_of, first_store, first_other}

@@ -3,7 +3,8 @@ use Rattle.std.specs.Prelude.{◌≡◌, ℕ, List, [], Result, Ok, Err, Option,
 use Rattle.yarn_base.specs.Causes.{Rose}
 use Rattle.yarn_base.specs.Outside.{Named, GivesFile, WritesPart}
 use Rattle.yarn_code.specs.Moments as moments
-use Rattle.yarn_code.specs.Moments.{Pairs, State}
+use Rattle.yarn_code.specs.Moments.{State}
+use Rattle.yarn_value.specs.Pairs.{Pairs}
 use Rattle.yarn_meaning.specs.First.{first_of}
 use Rattle.yarn_meaning.specs.Texts.{TellsAll, base_of, said_in_files}
 use Rattle.yarn_meaning.specs.Variables.{variables_of, first_other}

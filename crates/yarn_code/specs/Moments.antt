@@ -2,22 +2,10 @@
 use Rattle.std.specs.Prelude.{ℕ, zero, suc, List, [], ◌∷◌}
 use Rattle.yarn_value.specs.declared.value.Value.{Value}
 use Rattle.yarn_value.specs.declared.fault.RunFault.{RunFault}
+use Rattle.yarn_value.specs.Pairs.{Pairs}
+use Rattle.yarn_value.specs.Tape.{Tape}
 use Rattle.yarn_code.specs.declared.event.Event.{Event}
 use Rattle.yarn_code.specs.declared.event.Event.TheVariants as event
-
--- one answer of a host function: which one was asked, with which arguments, and what it replied
-pub record Reply : Type 0 where
-  pub name : List ℕ
-  pub args : List Value
-  pub value : Value
-
--- the replies that host functions give, in order
-abbrev pub Tape : Type 0
-Tape = List Reply
-
--- the variables with their values, in order
-abbrev pub Pairs : Type 0
-Pairs = List (List ℕ × Value)
 
 -- the store, the bytes of the input that are left, and the replies that are left
 pub record State : Type 0 where

@@ -4,3 +4,4 @@ pub mod Only
 pub mod ReadLaws
 pub mod Printed
 pub mod GameTokens
+pub mod Shallow

@@ -17,3 +17,4 @@ pub mod Marks
 pub mod TextTokens
 pub mod TextLaw
 pub mod OneTree
+pub mod Levels

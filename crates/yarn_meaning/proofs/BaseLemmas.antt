@@ -37,11 +37,11 @@ use Rattle.yarn_meaning.specs.Texts.{said_by, said_in, said_in_clauses, said_in_
 
 -- ---- the lines and options of a body, as its entries have them
 
-abbrev and_text : Option LineText → List LineText → List LineText
+abbrev pub and_text : Option LineText → List LineText → List LineText
 and_text (Some text) texts = text ∷ texts
 and_text None texts = texts
 
-abbrev body_texts : List Entry → List LineText
+abbrev pub body_texts : List Entry → List LineText
 body_texts [] = []
 body_texts (x ∷ xs) = and_text (said_at x.what) (body_texts xs)
 
@@ -109,7 +109,7 @@ mutual
 
 -- ---- lists whose ids differ
 
-abbrev text_ids : List LineText → List (List ℕ)
+abbrev pub text_ids : List LineText → List (List ℕ)
 text_ids [] = []
 text_ids (text ∷ texts) = text.id ∷ text_ids texts
 
@@ -118,7 +118,7 @@ ids-append [] b = refl
 ids-append (text ∷ a) b = ap (λ (l : List (List ℕ)). text.id ∷ l) (ids-append a b)
 
 -- no id comes again behind its line
-abbrev AreApart : List LineText → Type 0
+abbrev pub AreApart : List LineText → Type 0
 AreApart [] = Unit {0}
 AreApart (text ∷ texts) = (IsAmong (text_ids texts) text.id → ⊥) × AreApart texts
 
@@ -153,7 +153,7 @@ apart-tells (text ∷ texts) apart =
 -- ---- parts of lists
 
 -- the one list has some of the other's lines, in their order
-data IsPart : List LineText → List LineText → Type 0 where
+pub data IsPart : List LineText → List LineText → Type 0 where
   nothing : IsPart [] []
   takes : {text : LineText} {some all : List LineText} → IsPart some all → IsPart (text ∷ some) (text ∷ all)
   skips : {text : LineText} {some all : List LineText} → IsPart some all → IsPart some (text ∷ all)
@@ -177,18 +177,18 @@ part-among (takes part) x (inl e) = inl e
 part-among (takes part) x (inr is) = inr (part-among part x is)
 part-among (skips part) x is = inr (part-among part x is)
 
-part-apart : {some all : List LineText} → IsPart some all → AreApart all → AreApart some
+pub part-apart : {some all : List LineText} → IsPart some all → AreApart all → AreApart some
 part-apart nothing apart = tt
 part-apart (takes {text = text} part) apart = (λ is. apart.0 (part-among part text.id is), part-apart part apart.1)
 part-apart (skips part) apart = part-apart part apart.1
 
 -- ---- files
 
-abbrev node_texts : List NodeLines → List LineText
+abbrev pub node_texts : List NodeLines → List LineText
 node_texts [] = []
 node_texts (node ∷ nodes) = body_texts node.body ++ node_texts nodes
 
-abbrev file_texts : List FileLines → List LineText
+abbrev pub file_texts : List FileLines → List LineText
 file_texts [] = []
 file_texts (file ∷ files) = node_texts file.nodes ++ file_texts files
 
@@ -200,7 +200,7 @@ nodes-part : (nodes : List NodeLines) → IsPart (said_in_nodes (map grown_node 
 nodes-part [] = nothing
 nodes-part (node ∷ nodes) = part-append (body-part node.body (read node.body) refl) (nodes-part nodes)
 
-files-part : (files : List FileLines) → IsPart (said_in_files (map grown files)) (file_texts files)
+pub files-part : (files : List FileLines) → IsPart (said_in_files (map grown files)) (file_texts files)
 files-part [] = nothing
 files-part (file ∷ files) = part-append (nodes-part file.nodes) (files-part files)
 
@@ -234,7 +234,7 @@ names-from n (file ∷ files) =
     ∙ sym (ids-append (node_texts file.nodes) (file_texts files))
 
 -- in files that are read no id comes again
-ids-apart : (signatures : List Signature) (sources : List SourceFile) (files : List FileLines) → reading_of signatures sources ≡ Reads files →
+pub ids-apart : (signatures : List Signature) (sources : List SourceFile) (files : List FileLines) → reading_of signatures sources ≡ Reads files →
     AreApart (file_texts files)
 ids-apart signatures sources files reads =
     let again = (ids_seen (reads_from true 0 sources)).again in

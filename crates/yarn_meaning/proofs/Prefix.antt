@@ -3,9 +3,9 @@ use Rattle.std.proofs.Common.{ℕ, zero, suc, ◌+◌, ◌<◌, List, [], ◌∷
 use Rattle.yarn_value.specs.declared.signature.Signature.{Signature}
 use Rattle.yarn_tree.specs.Trees.{FileTree}
 use Rattle.yarn_code.specs.Moments.{State, Moment, Stand, Ended, Outcome, Behaviour, stands, emit, finishes}
-use Rattle.yarn_meaning.specs.First.{first_of}
+use Rattle.yarn_meaning.specs.First.{starting, first_of}
 use Rattle.yarn_meaning.specs.Prefix.{IsPrefix}
-use Rattle.yarn_meaning.proofs.Fuel.{related_from}
+use Rattle.yarn_meaning.proofs.Fuel.{related_first}
 
 -- for fewer than n + 1 events
 record Grow (n : ℕ) (b c : Behaviour) : Type 0 where
@@ -37,4 +37,4 @@ pub first_prefix : (functions : List Signature) (files : List FileTree) (start :
     IsPrefix (first_of functions files start st k) (first_of functions files start st (k + 1))
 first_prefix functions files start st zero = record { rest = (first_of functions files start st 1).moments; joins = refl }
 first_prefix functions files start st (suc k) =
-    rw add-one ((related_from Grow none fewer emits stood finished functions files (suc k) start st Ended st).by k (omega arith))
+    rw add-one ((related_first Grow none fewer emits stood finished functions files k start Ended (starting functions files) st).by k (omega arith))

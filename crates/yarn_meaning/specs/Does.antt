@@ -3,7 +3,6 @@ use Rattle.std.specs.Prelude.{ℕ, zero, suc, List, [], ◌∷◌, ◌++◌, len
 use Rattle.yarn_value.specs.declared.value.Value.{Value}
 use Rattle.yarn_value.specs.declared.value.Value.TheVariants.{Number, Str, Truth}
 use Rattle.yarn_value.specs.declared.fault.RunFault.TheVariants as run
-use Rattle.yarn_value.specs.declared.signature.Signature.{Signature}
 use Rattle.yarn_expr.specs.declared.tree.BinaryOp.{BinaryOp}
 use Rattle.yarn_expr.specs.declared.tree.Expr.{Expr}
 use Rattle.yarn_blocks.specs.declared.entry.Simple.{Simple}
@@ -11,13 +10,15 @@ use Rattle.yarn_blocks.specs.declared.entry.Simple.TheVariants as simple
 use Rattle.yarn_blocks.specs.declared.tree.LineText.{LineText}
 use Rattle.yarn_blocks.specs.Tree as T
 use Rattle.yarn_blocks.specs.Tree.{Leaf, Group, Nil, Cons, NoOptions, AndOption, NoClauses, AndClause, NoElse, ElseOf, Offered}
-use Rattle.yarn_store.specs.Pairs.{put}
+use Rattle.yarn_value.specs.Pairs.{put, Pairs}
 use Rattle.yarn_code.specs.Answer.{Answered, answer_of}
 use Rattle.yarn_code.specs.declared.event.Event.{Event}
 use Rattle.yarn_code.specs.declared.event.Event.TheVariants as event
 use Rattle.yarn_code.specs.declared.event.Choice.{Choice}
-use Rattle.yarn_code.specs.Moments.{Pairs, Tape, State, Moment, moment}
-use Rattle.yarn_meaning.specs.Eval.{Halt, Faults, Evaluated, Gives, given, and_then, eval, eval_all, operated, binary_op, stored}
+use Rattle.yarn_code.specs.Moments.{State, Moment, moment}
+use Rattle.yarn_value.specs.Tape.{Tape}
+use Rattle.yarn_meaning.specs.Eval.{eval, eval_all, operated, binary_op, stored}
+use Rattle.yarn_value.specs.Evaluation.{Scope, Halt, Faults, Evaluated, Gives, given, and_then}
 use Rattle.yarn_meaning.specs.Filled.{filled}
 
 -- how statements are left
@@ -48,16 +49,16 @@ prefixed ms d = record { moments = ms ++ d.moments; exit = d.exit; state = d.sta
 abbrev pub showing : Event → State → Done → Done
 showing e st d = prefixed (moment e st ∷ []) d
 
--- goes on where statements were left through
-abbrev pub goes_on : Exit → List Moment → State → (State → Done) → Done
-goes_on Through ms st next = prefixed ms (next st)
-goes_on (Jumps line title) ms st next = record { moments = ms; exit = Jumps line title; state = st }
-goes_on (Stops line) ms st next = record { moments = ms; exit = Stops line; state = st }
-goes_on (Halted line halt) ms st next = record { moments = ms; exit = Halted line halt; state = st }
-goes_on Waiting ms st next = record { moments = ms; exit = Waiting; state = st }
+-- goes on where statements were left through, with the statements that follow them
+abbrev pub goes_on : Exit → List Moment → State → T.Stmts → (State → Done) → Done
+goes_on Through ms st b next = prefixed ms (next st)
+goes_on (Jumps line title) ms st b next = record { moments = ms; exit = Jumps line title; state = st }
+goes_on (Stops line) ms st b next = record { moments = ms; exit = Stops line; state = st }
+goes_on (Halted line halt) ms st b next = record { moments = ms; exit = Halted line halt; state = st }
+goes_on Waiting ms st b next = record { moments = ms; exit = Waiting; state = st }
 
-abbrev pub and_on : Done → (State → Done) → Done
-and_on d next = goes_on d.exit d.moments d.state next
+abbrev pub and_on : Done → T.Stmts → (State → Done) → Done
+and_on d b next = goes_on d.exit d.moments d.state b next
 
 abbrev pub with_tape : Tape → State → State
 with_tape t st = record { store = st.store; answers = st.answers; tape = t }
@@ -123,16 +124,16 @@ abbrev pub group_line : T.Options → ℕ
 group_line NoOptions = 0
 group_line (AndOption n body os) = n.text.line
 
-module _ (functions : List Signature) where
+module _ (scope : Scope) where
   -- the condition of an option; one without a condition can be chosen
   abbrev pub asked : Option Expr → Pairs → Tape → Evaluated Bool
   asked None store t = Gives true t
-  asked (Some e) store t = and_then (eval functions store e t) (λ v t1. Gives (is_true v) t1)
+  asked (Some e) store t = and_then (eval scope store e t) (λ v t1. Gives (is_true v) t1)
 
   -- an option: its substitutions from the left, and then its condition
   abbrev pub choice_of : Offered → Pairs → Tape → Evaluated Choice
   choice_of n store t =
-      and_then (eval_all functions store n.text.holes t)
+      and_then (eval_all scope store n.text.holes t)
       (λ vs t1. and_then (asked n.condition store t1) (λ can t2. Gives (record { id = n.text.id; values = vs; available = can }) t2))
 
   -- goes on with the options of a group, each evaluated in order, behind those before
@@ -143,14 +144,14 @@ module _ (functions : List Signature) where
 
   -- what is set: the expression, or the operator on the variable and the expression
   abbrev pub set_value : List ℕ → Option BinaryOp → Expr → Pairs → Tape → Evaluated Value
-  set_value name None e store t = eval functions store e t
+  set_value name None e store t = eval scope store e t
   set_value name (Some op) e store t =
-      and_then (eval functions store e t) (λ v t1. operated (binary_op op (stored store name)) (stored store name ∷ v ∷ []) t1)
+      and_then (eval scope store e t) (λ v t1. operated (binary_op op (stored store name)) (stored store name ∷ v ∷ []) t1)
 
   -- a line or a command, with the values of its substitutions
   abbrev pub says : LineText → (List Value → Event) → State → Done
   says text shown st =
-      using text.line (eval_all functions st.store text.holes st.tape) st (λ vs st1. showing (shown vs) st1 (done Through st1))
+      using text.line (eval_all scope st.store text.holes st.tape) st (λ vs st1. showing (shown vs) st1 (done Through st1))
 
   abbrev pub does_simple : Simple → State → Done
   does_simple (simple.Line text) st = says text (λ vs. event.Line text.id vs) st
@@ -160,9 +161,9 @@ module _ (functions : List Signature) where
   does_simple (simple.Declare head name value kind) st = done Through st
   does_simple (simple.Jump head title) st = done (Jumps head.line title) st
   does_simple (simple.JumpTo head e) st =
-      using head.line (eval functions st.store e st.tape) st (λ v st1. done (Jumps head.line (title_in v)) st1)
+      using head.line (eval scope st.store e st.tape) st (λ v st1. done (Jumps head.line (title_in v)) st1)
   does_simple (simple.Stop head) st = done (Stops head.line) st
-  does_simple (simple.Call head e) st = using head.line (eval functions st.store e st.tape) st (λ v st1. done Through st1)
+  does_simple (simple.Call head e) st = using head.line (eval scope st.store e st.tape) st (λ v st1. done Through st1)
 
   abbrev mutual
     pub does : T.Stmt → State → Done
@@ -173,7 +174,7 @@ module _ (functions : List Signature) where
 
     pub does_all : T.Stmts → State → Done
     does_all Nil st = done Through st
-    does_all (Cons s b) st = and_on (does s st) (λ st1. does_all b st1)
+    does_all (Cons s b) st = and_on (does s st) b (λ st1. does_all b st1)
 
     -- the body of the option with that number, from 0
     pub does_option : T.Options → ℕ → State → Done
@@ -185,7 +186,7 @@ module _ (functions : List Signature) where
     pub does_clauses : T.Clauses → State → (State → Done) → Done
     does_clauses NoClauses st otherwise = otherwise st
     does_clauses (AndClause n body cs) st otherwise =
-        using n.head.line (eval functions st.store n.condition st.tape) st
+        using n.head.line (eval scope st.store n.condition st.tape) st
         (λ v st1. if is_true v then does_all body st1 else does_clauses cs st1 otherwise)
 
     pub does_last : T.Last → State → Done

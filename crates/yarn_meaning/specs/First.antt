@@ -6,12 +6,12 @@ use Rattle.yarn_value.specs.declared.fault.RunFault.{RunFault}
 use Rattle.yarn_value.specs.declared.fault.RunFault.TheVariants as run
 use Rattle.yarn_value.specs.declared.signature.Signature.{Signature}
 use Rattle.yarn_value.specs.Operations.{number}
-use Rattle.yarn_blocks.specs.Tree.{Stmts}
 use Rattle.yarn_tree.specs.Trees.{NodeTree, FileTree}
 use Rattle.yarn_code.specs.declared.event.Event.TheVariants as event
 use Rattle.yarn_code.specs.Moments.{State, Stand, Waits, Behaviour, Outcome, stands, emit, emit_all, finishes, moment}
 use Rattle.yarn_code.specs.Moments as moments
-use Rattle.yarn_meaning.specs.Eval.{Halt, Faults, Asks, BadReply, count_name, visits}
+use Rattle.yarn_value.specs.Evaluation.{Scope, Halt, Faults, Asks, BadReply}
+use Rattle.yarn_value.specs.Visits.{count_name, visits}
 use Rattle.yarn_meaning.specs.Does.{Exit, Through, Jumps, Stops, Halted, Waiting, Done, does_all, with_value}
 
 -- ---- nodes
@@ -82,35 +82,64 @@ left Waiting st exits = stands Waits st
 abbrev pub after : Done → Exits → Behaviour
 after d exits = emit_all d.moments (left d.exit d.state exits)
 
--- how nodes are entered: from the node of a title on, or what stands where no node has it
-abbrev pub Entering : Type 0
-Entering = List ℕ → State → Behaviour → Behaviour
+-- ---- pieces
 
--- so a node is left: at the end of its body and by a `stop` the run is over, and a jump enters the next node
-abbrev pub exits_of : Entering → Placed → Exits
-exits_of enter n = record {
-  through = λ st. leaves n n.node.end_line st finishes;
-  jumps = λ line title st. leaves n line st (λ st1. enter title st1 (stands (faults_at n line (run.UnknownNode title)) st1));
-  stops = λ line st. leaves n line st finishes;
-  halts = λ line halt st. stands (halts_at n line halt) st;
+-- where a run is: the node
+pub record Piece : Type 0 where
+  pub node : Placed
+
+-- how a piece is done
+abbrev pub Going : Type 0
+Going = Piece → State → Behaviour
+
+-- the body of a node, entered from a piece
+abbrev pub entered : Piece → Placed → Piece
+entered from n = record from {
+  node = n;
 }
 
-module _ (functions : List Signature) where
-  -- statements of the node, and what follows them
-  abbrev pub in_body : Entering → Placed → Stmts → State → Behaviour
-  in_body enter n b st = after (does_all functions b st) (exits_of enter n)
+-- the start of a node, and its body
+abbrev pub in_node : Going → Piece → State → Behaviour
+in_node go piece st = emit (moment (event.NodeStart piece.node.node.title) st) (go piece st)
 
-  -- the node is entered, and its body is done
-  abbrev pub in_node : Entering → State → Placed → Behaviour
-  in_node enter st n = emit (moment (event.NodeStart n.node.title) st) (in_body enter n n.node.body st)
+-- the node of that title is entered from a piece; or none has the title, and that line of the node faults
+abbrev pub enters : List FileTree → Going → Placed → ℕ → List ℕ → Piece → State → Behaviour
+enters files go n line title piece st =
+    at_node (find title files) (stands (faults_at n line (run.UnknownNode title)) st) (λ to. in_node go (entered piece to) st)
 
-  -- from the node of that title on, through at most so many nodes; else what stands where no node has it
-  abbrev pub from : List FileTree → ℕ → Entering
-  from files zero title st none = stands moments.Limit st
-  from files (suc fuel) title st none = at_node (find title files) none (in_node (from files fuel) st)
+-- so a node is left: at the end of its body and by a `stop` the run is over, and a jump enters the next node
+abbrev pub exits_of : List FileTree → Going → Piece → Exits
+exits_of files go piece = record {
+  through = λ st. leaves piece.node piece.node.node.end_line st finishes;
+  jumps = λ line title st. leaves piece.node line st (enters files go piece.node line title piece);
+  stops = λ line st. leaves piece.node line st finishes;
+  halts = λ line halt st. stands (halts_at piece.node line halt) st;
+}
 
-  -- the first k events from the node of that title on, for k at least 1, and the stand there; each node gives an event, so
-  -- k nodes suffice. No run is made where no node has the title.
-  abbrev pub first_of : List FileTree → List ℕ → State → ℕ → Outcome
-  first_of files start st zero = stands moments.Limit st zero
-  first_of files start st (suc k) = from files (suc k) start st (stands moments.Ended st) k
+-- what expressions of a piece know
+abbrev pub scope_of : List Signature → Piece → Scope
+scope_of functions piece = record {
+  functions = functions;
+}
+
+module _ (functions : List Signature) (files : List FileTree) where
+  -- a piece, and what follows it
+  abbrev pub in_piece : Going → Piece → State → Behaviour
+  in_piece go piece st = after (does_all (scope_of functions piece) piece.node.node.body st) (exits_of files go piece)
+
+  -- a piece, through at most so many pieces
+  abbrev pub from : ℕ → Going
+  from zero piece st = stands moments.Limit st
+  from (suc fuel) piece st = in_piece (from fuel) piece st
+
+  -- the piece of a node that is entered first
+  abbrev pub starting : Placed → Piece
+  starting n = record {
+    node = n;
+  }
+
+  -- the first k events from the node of that title on, for k at least 1, and the stand there; each piece begins behind an event, so
+  -- k - 1 pieces suffice. No run is made where no node has the title.
+  abbrev pub first_of : List ℕ → State → ℕ → Outcome
+  first_of start st zero = stands moments.Limit st zero
+  first_of start st (suc k) = at_node (find start files) (stands moments.Ended st) (λ n. in_node (from k) (starting n) st) k

@@ -11,9 +11,8 @@ use Rattle.yarn_blocks.specs.declared.entry.Simple.TheVariants as simple
 use Rattle.yarn_blocks.specs.Tree.{Stmt, Leaf, Group, Choice, Stmts, Nil, Cons, Options, NoOptions, AndOption, Clauses, NoClauses, AndClause, Last, NoElse, ElseOf}
 use Rattle.yarn_tree.specs.Trees.{NodeTree, FileTree}
 use Rattle.yarn_types.specs.declared.typed.TypedName.{TypedName}
-use Rattle.yarn_store.specs.Pairs.{value_under}
-use Rattle.yarn_code.specs.Moments.{Pairs}
-use Rattle.yarn_meaning.specs.Eval.{count_name}
+use Rattle.yarn_value.specs.Pairs.{value_under, Pairs}
+use Rattle.yarn_value.specs.Visits.{count_name}
 
 -- ---- what is declared, in order of the text
 

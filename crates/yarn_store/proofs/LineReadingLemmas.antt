@@ -11,7 +11,7 @@ use Rattle.yarn_value.specs.Numbers.{signed_number}
 use Rattle.yarn_value.specs.Quoting.{letter, spelled, escape, quoted}
 use Rattle.yarn_value.specs.declared.value.Value.{Value}
 use Rattle.yarn_value.specs.declared.value.Value.TheVariants.{Number, Str, Truth}
-use Rattle.yarn_store.specs.Pairs.{Pair, same_name as same_bytes}
+use Rattle.yarn_value.specs.Pairs.{Pair, same_name as same_bytes}
 use Rattle.yarn_store.specs.Variables.{StandsFor, Spells, SpellsNumber, behind_minus, has_spare_zero}
 use Rattle.yarn_store.specs.LineReading.{number_of, truth_of, meant, itself, with_byte, empty_text, text_behind, unquoted, short_text, value_of, before_space, from_space, value_behind, pair_of, LinesAreRead}
 use Rattle.yarn_store.specs.Steps.{IsPairLine}

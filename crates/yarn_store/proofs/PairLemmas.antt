@@ -8,7 +8,9 @@ use Rattle.indexmap.specs.IndexMap.{insert_entry}
 use Rattle.indexmap.specs.Layout.{set_value_at}
 use Rattle.indexmap.proofs.MapLemmas.{insert_entry-first, Found-position}
 use Rattle.yarn_value.specs.declared.value.Value.{Value}
-use Rattle.yarn_store.specs.Pairs.{Pair, same_name, value_under, put, IsShort, IsPair, AreDistinct, IsStore}
+use Rattle.yarn_store.specs.Pairs.{IsPair, IsStore}
+use Rattle.yarn_value.specs.Pairs.{Pair, same_name, value_under, put, AreDistinct}
+use Rattle.yarn_value.specs.Values.{IsShort}
 
 pub value_under-lookup : (ps : List Pair) (name : List ℕ) → lookup (same_name name) ps ≡ value_under ps name
 value_under-lookup [] name = refl

@@ -3,7 +3,9 @@ use Rattle.std.proofs.Common.{◌≡◌, ℕ, ◌+◌, ◌<◌, ◌≤◌, List,
 use Rattle.std.specs.Option.{option_copied}
 use Rattle.yarn_value.specs.declared.value.Value.{Value}
 use Rattle.yarn_value.specs.declared.value.Value.TheVariants.{Number, Str, Truth}
-use Rattle.yarn_store.specs.Pairs.{Pair, same_name, value_under, put, IsShort, IsPair}
+use Rattle.yarn_store.specs.Pairs.{IsPair}
+use Rattle.yarn_value.specs.Pairs.{Pair, same_name, value_under, put}
+use Rattle.yarn_value.specs.Values.{IsShort}
 use Rattle.yarn_store.specs.Lines.{lines_of}
 use Rattle.yarn_store.specs.Variables.{StandsFor, Spells}
 use Rattle.yarn_store.specs.LineReading.{pair_of}

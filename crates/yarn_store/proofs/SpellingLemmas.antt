@@ -9,7 +9,7 @@ use Rattle.yarn_value.specs.Quoting.{quoted, IsQuoted}
 use Rattle.yarn_value.proofs.QuotingLemmas.{quoted_once}
 use Rattle.yarn_value.specs.declared.value.Value.{Value}
 use Rattle.yarn_value.specs.declared.value.Value.TheVariants.{Number, Str, Truth}
-use Rattle.yarn_store.specs.Pairs.{Pair}
+use Rattle.yarn_value.specs.Pairs.{Pair}
 use Rattle.yarn_store.specs.Variables.{SpellsNumber, Spells, StandsFor}
 use Rattle.yarn_store.specs.Steps.{IsCut, CanBeCut, IsPairLine, IsPlain, IsShortQuoted, IsValue}
 use Rattle.yarn_store.proofs.NameLemmas.{NoByte, space_foreign, variable_free, utf8_before, at_seam, within}

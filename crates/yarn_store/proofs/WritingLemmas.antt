@@ -15,7 +15,9 @@ use Rattle.yarn_value.specs.Numbers.{fits, is_digit, value_after}
 use Rattle.yarn_value.specs.Quoting.{letter, spelled, escape, quoted}
 use Rattle.yarn_value.specs.declared.value.Value.{Value}
 use Rattle.yarn_value.specs.declared.value.Value.TheVariants.{Number, Str, Truth}
-use Rattle.yarn_store.specs.Pairs.{Pair, same_name, value_under, put, IsShort, IsPair, AreDistinct, IsStore}
+use Rattle.yarn_store.specs.Pairs.{IsPair, IsStore}
+use Rattle.yarn_value.specs.Pairs.{Pair, same_name, value_under, put, AreDistinct}
+use Rattle.yarn_value.specs.Values.{IsShort}
 use Rattle.yarn_store.specs.Lines.{lines_of}
 use Rattle.yarn_store.specs.Variables.{SpellsNumber, Spells, StandsFor, spelling, pair_line, vars_text, has_spare_zero}
 use Rattle.yarn_store.specs.Reading.{reading_from, vars_of, Holds}

@@ -6,7 +6,7 @@ use Rattle.yarn_base.specs.Name.{is_variable_of}
 use Rattle.yarn_value.specs.Numbers.{signed_number}
 use Rattle.yarn_value.specs.declared.value.Value.{Value}
 use Rattle.yarn_value.specs.declared.value.Value.TheVariants.{Number, Str, Truth}
-use Rattle.yarn_store.specs.Pairs.{Pair, same_name as same_bytes}
+use Rattle.yarn_value.specs.Pairs.{Pair, same_name as same_bytes}
 use Rattle.yarn_store.specs.Variables.{StandsFor, behind_minus, has_spare_zero}
 
 abbrev pub number_of : List ℕ → Option Value

@@ -1,6 +1,6 @@
 -- What a variables file is read as: a store, or its first line that is refused (docs/formats.md, Variables file).
 use Rattle.std.specs.Prelude.{◌≡◌, ◌+◌, ℕ, List, [], ◌∷◌, ◌++◌, if◌then◌else◌, is_some, Option, Some, None, Result, Ok, Err, ⊤}
-use Rattle.yarn_store.specs.Pairs.{Pair, value_under}
+use Rattle.yarn_value.specs.Pairs.{Pair, value_under}
 use Rattle.yarn_store.specs.Lines.{lines_of}
 use Rattle.yarn_store.specs.LineReading.{pair_of}
 use Rattle.yarn_store.specs.declared.read.VarsFault.{VarsFault}

@@ -3,7 +3,7 @@ use Rattle.std.specs.Prelude.{◌≡◌, ◌<◌, ◌+◌, ◌≢◌, ◌⊎◌,
 use Rattle.yarn_value.specs.Numbers.{fits}
 use Rattle.yarn_value.specs.declared.value.Value.{Value}
 use Rattle.yarn_value.specs.declared.value.Value.TheVariants.{Number, Str, Truth}
-use Rattle.yarn_store.specs.Pairs.{Pair}
+use Rattle.yarn_value.specs.Pairs.{Pair}
 use Rattle.yarn_store.specs.Variables.{StandsFor, Spells, SpellsNumber, pair_line}
 use Rattle.yarn_store.specs.Reading.{after_line}
 

@@ -7,7 +7,7 @@ use Rattle.yarn_value.specs.Numbers.{signed_number}
 use Rattle.yarn_value.specs.Quoting.{quoted}
 use Rattle.yarn_value.specs.declared.value.Value.{Value}
 use Rattle.yarn_value.specs.declared.value.Value.TheVariants.{Number, Str, Truth}
-use Rattle.yarn_store.specs.Pairs.{Pair}
+use Rattle.yarn_value.specs.Pairs.{Pair}
 
 abbrev pub behind_minus : List ℕ → List ℕ
 behind_minus [] = []

@@ -1,7 +1,9 @@
 //! The store: pairs of a variable and its value, in the order in which the variables came.
 ghost use Rattle.std.specs.Prelude.{◌≡◌, ◌<◌, [], length, take, slice_get, map, Some, None, IsSome, IfOk, IfErr, OnOk, OnErr};
 ghost use Rattle.std.specs.Option.{option_copied, option_map};
-ghost use Rattle.yarn_store.specs.Pairs.{value_under, put, IsPair, IsShort, IsStore};
+ghost use Rattle.yarn_store.specs.Pairs.{IsPair, IsStore};
+ghost use Rattle.yarn_value.specs.Pairs.{value_under, put, Pair};
+ghost use Rattle.yarn_value.specs.Values.{IsShort};
 
 use indexmap::IndexMap;
 use std::alloc::Global;
@@ -22,7 +24,7 @@ pub struct Store {
 
 impl Model for Store {
     ghost use Rattle.std.specs.Prelude.{List, All};
-    ghost use Rattle.yarn_store.specs.Pairs.{Pair, IsPair};
+    ghost use Rattle.yarn_store.specs.Pairs.{IsPair};
 
     ghost Value = { List Pair };
 

@@ -9,7 +9,7 @@ use Rattle.std.proofs.lemmas.Map.Text.{btree_map_updates_str}
 use Rattle.yarn_value.specs.declared.signature.Signature.{Signature}
 use Rattle.yarn_tree.specs.Arities.{HasArities}
 use Rattle.yarn_value.specs.Builtins.{Row, row_named, builtin_rows}
-use Rattle.yarn_tree.specs.Checks.{row_arity, declared_arity, builtin_or, arity_of}
+use Rattle.yarn_value.specs.Signatures.{row_arity, declared_arity, builtin_or, arity_of}
 
 arities_more : (m n : BTreeMap (Bor (List ℕ)) ℕ) (key : Bor (List ℕ)) (arity : ℕ) (one : Signature) (later : List Signature) → key.now ≡ one.name →
     arity ≡ length one.params →

@@ -5,7 +5,7 @@ use Rattle.std.specs.BTreeMap.{BTreeMap, get_by}
 use Rattle.std.specs.Cmp.Lexicographic.{slice_cmp}
 use Rattle.std.specs.Ordering.{nat_cmp}
 use Rattle.yarn_value.specs.declared.signature.Signature.{Signature}
-use Rattle.yarn_tree.specs.Checks.{declared_arity}
+use Rattle.yarn_value.specs.Signatures.{declared_arity}
 
 -- the map has the arity of each name
 abbrev pub HasArities : BTreeMap (Bor (List ℕ)) ℕ → List Signature → Type 0

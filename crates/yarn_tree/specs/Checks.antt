@@ -2,11 +2,10 @@
 -- (docs/language.md, Refusals of a project).
 use Rattle.std.specs.Prelude.{ℕ, ◌+◌, ◌-◌, List, [], ◌∷◌, ◌++◌, length, slice_get, nat_lt, nat_eq, Bool, true, false, not, ◌||◌, if◌then◌else◌, Option, Some, None, is_some, codes}
 use Rattle.std.specs.List.{list_any}
-use Rattle.std.specs.Str.{bytes_eq}
 use Rattle.yarn_base.specs.declared.Place.{Place}
 use Rattle.yarn_lines.specs.Lines.{begins_with}
 use Rattle.yarn_value.specs.declared.signature.Signature.{Signature}
-use Rattle.yarn_value.specs.Builtins.{Row, row_named, builtin_rows}
+use Rattle.yarn_value.specs.Signatures.{arity_of}
 use Rattle.yarn_items.specs.Text.{is_id}
 use Rattle.yarn_blocks.specs.declared.entry.Entry.{Entry}
 use Rattle.yarn_blocks.specs.declared.tree.LineText.{LineText}
@@ -116,25 +115,6 @@ is_unknown_title known (Title title) = not (known title)
 is_unknown_title known (Variable name) = false
 is_unknown_title known (Declaration name) = false
 is_unknown_title known (Function name count) = false
-
--- how many arguments a builtin has
-abbrev pub one_if : Bool → ℕ
-one_if there = if there then 1 else 0
-
-abbrev pub row_arity : Row → ℕ
-row_arity row = one_if (is_some row.first) + one_if (is_some row.second)
-
-abbrev pub declared_arity : List Signature → List ℕ → Option ℕ
-declared_arity [] name = None
-declared_arity (s ∷ signatures) name = if bytes_eq s.name name then Some (length s.params) else declared_arity signatures name
-
-abbrev pub builtin_or : Option Row → Option ℕ → Option ℕ
-builtin_or (Some row) declared = Some (row_arity row)
-builtin_or None declared = declared
-
--- how many arguments the function of that name has: a builtin, or one of the signatures
-unfoldable pub arity_of : List Signature → List ℕ → Option ℕ
-arity_of signatures name = builtin_or (row_named builtin_rows name) (declared_arity signatures name)
 
 abbrev pub is_absent : Option ℕ → Bool
 is_absent None = true

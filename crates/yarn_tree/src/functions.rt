@@ -1,7 +1,7 @@
 //! How many arguments functions have: the builtins, and those of the game.
 ghost use Rattle.std.specs.Prelude.{◌≡◌, IfOk};
 ghost use Rattle.yarn_value.specs.Builtins.{row_of};
-ghost use Rattle.yarn_tree.specs.Checks.{row_arity, declared_arity, arity_of};
+ghost use Rattle.yarn_value.specs.Signatures.{row_arity, declared_arity, arity_of};
 
 use std::alloc::Global;
 use std::collections::BTreeMap;

@@ -9,7 +9,7 @@ use Rattle.yarn_value.specs.declared.value.Kind.TheVariants.{Number}
 use Rattle.yarn_value.specs.declared.signature.Signature.{Signature}
 use Rattle.yarn_value.specs.declared.builtin.Param.{Param}
 use Rattle.yarn_value.specs.declared.builtin.Param.TheVariants as param
-use Rattle.yarn_value.specs.Builtins.{Row}
+use Rattle.yarn_value.specs.Builtins.{Row, builtin_named}
 use Rattle.yarn_value.specs.Rows.{same_kind, accepts}
 use Rattle.yarn_expr.specs.declared.tree.BinaryOp.{BinaryOp}
 use Rattle.yarn_expr.specs.declared.tree.Expr.{Expr}
@@ -22,10 +22,10 @@ use Rattle.yarn_types.specs.declared.class.Classes.{Classes}
 use Rattle.yarn_types.specs.declared.expression.Scope.{Scope}
 use Rattle.yarn_types.specs.KindSets.{holds, only}
 use Rattle.yarn_types.specs.Names.{place_of}
-use Rattle.yarn_types.specs.Functions.{signature_named}
+use Rattle.yarn_value.specs.Signatures.{signature_named}
 use Rattle.yarn_types.specs.Founds.{kind_in, kind_under, variable_under, each_under, call_under, row_under, args_under, both_accept, kind_of_param}
 use Rattle.yarn_types.specs.Classes.{count_of, Stands, Narrows, Refuses, Finds, FindsNone, Halfway}
-use Rattle.yarn_types.specs.Fits.{joined, is_in, takes_each, kinds_of, row_takes, called, builtin_named, node_count}
+use Rattle.yarn_types.specs.Fits.{joined, is_in, takes_each, kinds_of, row_takes, called, node_count}
 use Rattle.yarn_types.proofs.NodeLemmas.{kind_of-Binary, kind_of-Call}
 use Rattle.yarn_types.proofs.Narrowing.{narrows_none, narrows_as, finds_as, none_as, at_error, on_ok, on_err, if_ok, halfway_step, halfway_ends, halfway_stops, not_true}
 use Rattle.yarn_types.proofs.KindLemmas.{holds_only, same_kind_self}

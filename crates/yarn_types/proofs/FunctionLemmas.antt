@@ -8,7 +8,7 @@ use Rattle.std.specs.Option.{option_copied}
 use Rattle.std.specs.Ordering.{nat_cmp}
 use Rattle.std.proofs.lemmas.Map.Text.{btree_map_updates_str}
 use Rattle.yarn_value.specs.declared.signature.Signature.{Signature}
-use Rattle.yarn_types.specs.Functions.{signature_named}
+use Rattle.yarn_value.specs.Signatures.{signature_named}
 use Rattle.yarn_types.specs.FunctionMaps.{Finds}
 
 one_more : (is : Bool) (one : Bor Signature) (o : Option (Bor Signature)) (p : Option Signature) → option_copied o ≡ p →

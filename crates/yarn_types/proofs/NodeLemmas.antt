@@ -9,8 +9,9 @@ use Rattle.yarn_expr.specs.declared.tree.Expr.TheVariants.{Binary, rolls-Binary,
 use Rattle.yarn_expr.specs.declared.tree.Expr.TheOpen.{Expr-F}
 use Rattle.yarn_expr.specs.declared.tree.Expr.TheFolds.{fold-roll-Expr}
 use Rattle.yarn_types.specs.Names.{Appearance}
-use Rattle.yarn_types.specs.Functions.{signature_named}
-use Rattle.yarn_types.specs.Fits.{joined, called, builtin_named, kind_of, kind_step, names_in, names_step, node_count, count_step}
+use Rattle.yarn_value.specs.Signatures.{signature_named}
+use Rattle.yarn_types.specs.Fits.{joined, called, kind_of, kind_step, names_in, names_step, node_count, count_step}
+use Rattle.yarn_value.specs.Builtins.{builtin_named}
 
 pub kind_of-Binary : (fs : List Signature) (vs : List Appearance) (t : List Kind) (op : BinaryOp) (left right : Expr) → kind_of fs vs t (Binary op left right) ≡ joined op (kind_of fs vs t left) (kind_of fs vs t right)
 kind_of-Binary fs vs t op left right = ap (kind_of fs vs t) (sym (rolls-Binary op left right)) ∙ fold-roll-Expr (Option Kind) (kind_step fs vs t) (Expr-F.Binary op left right)

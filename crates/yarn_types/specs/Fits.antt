@@ -7,7 +7,7 @@ use Rattle.yarn_value.specs.declared.value.Kind.{Kind}
 use Rattle.yarn_value.specs.declared.value.Kind.TheVariants.{Number, Str, Truth}
 use Rattle.yarn_value.specs.declared.signature.Signature.{Signature}
 use Rattle.yarn_value.specs.declared.builtin.Param.{Param}
-use Rattle.yarn_value.specs.Builtins.{Row, row_named, builtin_rows}
+use Rattle.yarn_value.specs.Builtins.{Row, builtin_named}
 use Rattle.yarn_value.specs.Rows.{same_kind, takes}
 use Rattle.yarn_expr.specs.declared.tree.UnaryOp.{UnaryOp}
 use Rattle.yarn_expr.specs.declared.tree.UnaryOp.TheVariants.{Neg, Not}
@@ -19,7 +19,7 @@ use Rattle.yarn_expr.specs.declared.tree.Expr.TheFolds.{fold-Expr}
 use Rattle.yarn_types.specs.declared.kind_set.KindSet.{KindSet}
 use Rattle.yarn_types.specs.KindSets.{holds, only, all_kinds}
 use Rattle.yarn_types.specs.Names.{Appearance, place_of}
-use Rattle.yarn_types.specs.Functions.{signature_named}
+use Rattle.yarn_value.specs.Signatures.{signature_named}
 
 -- the kinds that an operator takes on both sides
 abbrev pub taken_by : BinaryOp → KindSet
@@ -87,10 +87,6 @@ kinds_of (arg ∷ args) = option_and_then (λ kind. option_map (λ kinds. kind �
 abbrev pub row_takes : Option Param → Option Param → Option (List Kind) → Bool
 row_takes first second (Some kinds) = takes first second kinds
 row_takes first second None = false
-
--- the row of a builtin
-unfoldable pub builtin_named : List ℕ → Option Row
-builtin_named name = row_named builtin_rows name
 
 -- a call of a builtin, or of a host function that is none
 abbrev pub called : Option Row → Option Signature → List (Option Kind) → Option Kind

@@ -11,8 +11,9 @@ use Rattle.yarn_types.specs.declared.finding.Found.{Found}
 use Rattle.yarn_types.specs.declared.finding.Found.TheVariants.{Known, OfVariable}
 use Rattle.yarn_types.specs.declared.expression.Scope.{Scope}
 use Rattle.yarn_types.specs.Typings.{kind_at}
-use Rattle.yarn_types.specs.Fits.{kind_of, kind_of_variable, called, builtin_named, kinds_of, row_takes, takes_each}
-use Rattle.yarn_types.specs.Functions.{signature_named}
+use Rattle.yarn_types.specs.Fits.{kind_of, kind_of_variable, called, kinds_of, row_takes, takes_each}
+use Rattle.yarn_value.specs.Builtins.{builtin_named}
+use Rattle.yarn_value.specs.Signatures.{signature_named}
 use Rattle.yarn_types.specs.Units.{Asked, UnitAt, fits_asked, fits_all, kind_set}
 
 -- the kind that a list gives what was found

@@ -6,7 +6,7 @@ use Rattle.std.specs.Cmp.Lexicographic.{slice_cmp}
 use Rattle.std.specs.Option.{option_copied}
 use Rattle.std.specs.Ordering.{nat_cmp}
 use Rattle.yarn_value.specs.declared.signature.Signature.{Signature}
-use Rattle.yarn_types.specs.Functions.{signature_named}
+use Rattle.yarn_value.specs.Signatures.{signature_named}
 
 -- the map has the first signature of each name
 abbrev pub Finds : BTreeMap (Bor (List ℕ)) (Bor Signature) → List Signature → Type 0

@@ -3,7 +3,6 @@ pub mod KindSets
 pub mod Sets
 pub mod Typed
 pub mod Names
-pub mod Functions
 pub mod Fits
 pub mod Units
 pub mod Typings

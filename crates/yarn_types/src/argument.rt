@@ -1,11 +1,11 @@
 //! The arguments of builtins.
 ghost use Rattle.std.specs.Prelude.{◌≡◌, ◌≤◌, ◌+◌, OnOk, OnErr, Some, None, map, sum};
 ghost use Rattle.std.specs.Option.{option_map};
-ghost use Rattle.yarn_value.specs.Builtins.{row_of};
+ghost use Rattle.yarn_value.specs.Builtins.{row_of, builtin_named};
 ghost use Rattle.yarn_value.specs.Rows.{accepts};
 ghost use Rattle.yarn_types.specs.Founds.{kind_in, row_under, both_accept};
 ghost use Rattle.yarn_types.specs.Classes.{Stands, IsPlaced, Narrows, Refuses};
-ghost use Rattle.yarn_types.specs.Fits.{builtin_named, node_count};
+ghost use Rattle.yarn_types.specs.Fits.{node_count};
 
 use crate::KindSet;
 use crate::class::Classes;

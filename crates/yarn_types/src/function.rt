@@ -1,7 +1,7 @@
 //! The signatures of host functions, found by their names.
 ghost use Rattle.std.specs.Prelude.{◌≡◌, IfOk};
 ghost use Rattle.std.specs.Option.{option_copied};
-ghost use Rattle.yarn_types.specs.Functions.{signature_named};
+ghost use Rattle.yarn_value.specs.Signatures.{signature_named};
 
 use std::alloc::Global;
 use std::collections::BTreeMap;

@@ -73,3 +73,7 @@ builtin_rows =
     ∷ on_visits (codes "visited") Truth
     ∷ on_visits (codes "visited_count") Number
     ∷ []
+
+-- the row of the builtin of that name
+unfoldable pub builtin_named : List ℕ → Option Row
+builtin_named name = row_named builtin_rows name

@@ -11,3 +11,9 @@ pub mod Pieces
 pub mod TemplateSteps
 pub mod TemplateReading
 pub mod TemplateSpelling
+pub mod Pairs
+pub mod Tape
+pub mod Signatures
+pub mod Evaluation
+pub mod Visits
+pub mod Replies

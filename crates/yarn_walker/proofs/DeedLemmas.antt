@@ -10,8 +10,10 @@ use Rattle.yarn_blocks.specs.declared.tree.Head.{Head}
 use Rattle.yarn_blocks.specs.declared.tree.LineText.{LineText}
 use Rattle.yarn_blocks.specs.declared.entry.Simple.TheVariants as simple
 use Rattle.yarn_code.specs.declared.event.Event.TheVariants as event
-use Rattle.yarn_code.specs.Moments.{Pairs, State, Moment, moment}
-use Rattle.yarn_meaning.specs.Eval.{Evaluated, Gives, Halts, and_then, eval}
+use Rattle.yarn_code.specs.Moments.{State, Moment, moment}
+use Rattle.yarn_value.specs.Pairs.{Pairs}
+use Rattle.yarn_meaning.specs.Eval.{eval}
+use Rattle.yarn_value.specs.Evaluation.{Evaluated, Gives, Halts, and_then}
 use Rattle.yarn_meaning.specs.Does.{Exit, Through, Jumps, Stops, Halted, Waiting, Done, done, prefixed, goes_on, and_on, showing, using, waits, group_line, title_in, does, does_all, does_option, does_clauses, does_last}
 use Rattle.yarn_meaning.specs.Texts.{Table, Tells, TellsAll, said_in, said_in_one, said_in_options, said_in_clauses, said_in_last}
 use Rattle.yarn_walker.specs.States.{at}

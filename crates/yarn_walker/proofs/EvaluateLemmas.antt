@@ -9,8 +9,11 @@ use Rattle.yarn_expr.specs.declared.tree.Expr.{Expr}
 use Rattle.yarn_expr.specs.declared.tree.Expr.TheVariants.{Call, rolls-Call}
 use Rattle.yarn_expr.specs.declared.tree.Expr.TheOpen.{Expr-F}
 use Rattle.yarn_expr.specs.declared.tree.Expr.TheFolds.{fold-roll-Expr}
-use Rattle.yarn_code.specs.Moments.{Pairs, Tape}
-use Rattle.yarn_meaning.specs.Eval.{Evaluated, Gives, Halts, and_then, each, eval_step, called, builtin_named, eval, eval_all}
+use Rattle.yarn_value.specs.Pairs.{Pairs}
+use Rattle.yarn_value.specs.Tape.{Tape}
+use Rattle.yarn_meaning.specs.Eval.{each, eval_step, called, eval, eval_all}
+use Rattle.yarn_value.specs.Evaluation.{Evaluated, Gives, Halts, and_then}
+use Rattle.yarn_value.specs.Builtins.{builtin_named}
 use Rattle.yarn_walker.specs.Means.{Means}
 
 -- where two continuations agree, so does what they make of one evaluation

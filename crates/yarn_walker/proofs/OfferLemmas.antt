@@ -10,8 +10,9 @@ use Rattle.yarn_blocks.specs.declared.tree.OptionItem.{OptionItem}
 use Rattle.yarn_blocks.specs.Tree.{Offered, Options, AndOption}
 use Rattle.yarn_blocks.specs.View.{stmts_of, options_of}
 use Rattle.yarn_code.specs.declared.event.Choice.{Choice}
-use Rattle.yarn_code.specs.Moments.{Pairs, State}
-use Rattle.yarn_meaning.specs.Eval.{Evaluated, Gives, Halts, Faults}
+use Rattle.yarn_code.specs.Moments.{State}
+use Rattle.yarn_value.specs.Pairs.{Pairs}
+use Rattle.yarn_value.specs.Evaluation.{Evaluated, Gives, Halts, Faults}
 use Rattle.yarn_meaning.specs.Does.{Done, Halted, done, using, choice_of, with_choices, any_open}
 use Rattle.yarn_walker.specs.States.{at}
 use Rattle.yarn_walker.specs.Means.{Means, IsAtLine}

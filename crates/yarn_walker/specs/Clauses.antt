@@ -4,8 +4,8 @@ use Rattle.std.specs.Borrow.{Bor}
 use Rattle.yarn_blocks.specs.declared.tree.Stmt.{Stmt}
 use Rattle.yarn_blocks.specs.Tree.{Stmts, Nil, Clauses, NoClauses, AndClause, Last, NoElse, ElseOf}
 use Rattle.yarn_blocks.specs.View.{stmts_of}
-use Rattle.yarn_code.specs.Moments.{Pairs}
-use Rattle.yarn_meaning.specs.Eval.{Faults}
+use Rattle.yarn_value.specs.Pairs.{Pairs}
+use Rattle.yarn_value.specs.Evaluation.{Faults}
 use Rattle.yarn_meaning.specs.Does.{Halted, done, does_all, does_clauses, does_last}
 use Rattle.yarn_walker.specs.States.{at}
 use Rattle.yarn_walker.specs.declared.halt.Halt.{Halt}

@@ -6,8 +6,10 @@ use Rattle.yarn_blocks.specs.declared.tree.LineText.{LineText}
 use Rattle.yarn_blocks.specs.Tree.{Stmts}
 use Rattle.yarn_blocks.specs.View.{options_of}
 use Rattle.yarn_code.specs.declared.event.Event.TheVariants as event
-use Rattle.yarn_code.specs.Moments.{Pairs, State}
-use Rattle.yarn_meaning.specs.Eval.{Evaluated, Gives, Halts, Faults, and_then, eval, eval_all}
+use Rattle.yarn_code.specs.Moments.{State}
+use Rattle.yarn_value.specs.Pairs.{Pairs}
+use Rattle.yarn_meaning.specs.Eval.{eval, eval_all}
+use Rattle.yarn_value.specs.Evaluation.{Evaluated, Gives, Halts, Faults, and_then}
 use Rattle.yarn_meaning.specs.Does.{Done, Through, Jumps, Stops, Halted, done, showing, and_on, waits, group_line, title_in, does_all, does_option}
 use Rattle.yarn_meaning.specs.Filled.{filled}
 use Rattle.yarn_meaning.specs.Texts.{Table, Tells, TellsAll, said_in, said_in_options}

@@ -2,7 +2,7 @@
 use Rattle.std.specs.Prelude.{◌≡◌, ℕ, [], Result, Ok, Err, ⊤}
 use Rattle.yarn_value.specs.declared.fault.OpFault.{OpFault}
 use Rattle.yarn_value.specs.declared.fault.OpFault.TheVariants as op
-use Rattle.yarn_meaning.specs.Eval.{Evaluated, Gives, Halts, Faults}
+use Rattle.yarn_value.specs.Evaluation.{Evaluated, Gives, Halts, Faults}
 use Rattle.yarn_walker.specs.declared.halt.Halt.{Halt}
 use Rattle.yarn_walker.specs.declared.halt.Halt.TheVariants as halt
 

@@ -6,8 +6,9 @@ use Rattle.yarn_blocks.specs.declared.tree.LineText.{LineText}
 use Rattle.yarn_blocks.specs.declared.tree.OptionItem.{OptionItem}
 use Rattle.yarn_blocks.specs.Tree.{Options, NoOptions, AndOption}
 use Rattle.yarn_code.specs.declared.event.Choice.{Choice}
-use Rattle.yarn_code.specs.Moments.{Pairs, State}
-use Rattle.yarn_meaning.specs.Eval.{Faults}
+use Rattle.yarn_code.specs.Moments.{State}
+use Rattle.yarn_value.specs.Pairs.{Pairs}
+use Rattle.yarn_value.specs.Evaluation.{Faults}
 use Rattle.yarn_meaning.specs.Does.{Done, Halted, done, with_choices, choice_of}
 use Rattle.yarn_walker.specs.States.{at}
 use Rattle.yarn_walker.specs.Means.{Means}

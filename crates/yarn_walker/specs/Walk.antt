@@ -11,7 +11,8 @@ use Rattle.yarn_code.specs.Answer.{answer_of}
 use Rattle.yarn_code.specs.declared.event.Event.{Event}
 use Rattle.yarn_code.specs.declared.event.Event.TheVariants as event
 use Rattle.yarn_code.specs.declared.event.Choice.{Choice}
-use Rattle.yarn_code.specs.Moments.{Pairs, State, Behaviour, moment, stands, emit, finishes, Limit, Faults, Waits as IsWaiting}
+use Rattle.yarn_code.specs.Moments.{State, Behaviour, moment, stands, emit, finishes, Limit, Faults, Waits as IsWaiting}
+use Rattle.yarn_value.specs.Pairs.{Pairs}
 use Rattle.yarn_meaning.specs.Does.{and_on, waits, group_line, does_all, does_option, any_open, chooses, less_one}
 use Rattle.yarn_meaning.specs.Filled.{filled}
 use Rattle.yarn_meaning.specs.First.{Placed, leaves, after, exits_of, in_body, in_node, from, faults_at}

@@ -1,7 +1,9 @@
 //! The values of expressions (docs/language.md, The meaning; Operators and builtins).
 ghost use Rattle.std.specs.Prelude.{◌≡◌, [], ◌∷◌, IfOk, IsTrue};
 ghost use Rattle.yarn_value.specs.Rows.{HasKinds, first_of, second_of, takes as kinds_taken};
-ghost use Rattle.yarn_meaning.specs.Eval.{eval, eval_all, operated as operated_of, unary_op as unary_op_of, binary_op as binary_op_of, called, builtin_named, stored as stored_of, visits_value as visits_value_of, of_visits as value_of_visits, plus_of};
+ghost use Rattle.yarn_meaning.specs.Eval.{eval, eval_all, operated as operated_of, unary_op as unary_op_of, binary_op as binary_op_of, called, stored as stored_of, visits_value as visits_value_of, plus_of};
+ghost use Rattle.yarn_value.specs.Builtins.{builtin_named};
+ghost use Rattle.yarn_value.specs.Visits.{of_visits as value_of_visits};
 ghost use Rattle.yarn_meaning.specs.Does.{is_true as is_true_of};
 ghost use Rattle.yarn_walker.specs.Means.{Means};
 

@@ -1,7 +1,8 @@
 //! What the store holds of variables and of counts.
 ghost use Rattle.std.specs.Prelude.{◌≡◌, IfOk, OnOk, IsTrue};
-ghost use Rattle.yarn_store.specs.Pairs.{put, value_under, IsShort};
-ghost use Rattle.yarn_meaning.specs.Eval.{count_name as count_name_of, number_in, visits as visits_of};
+ghost use Rattle.yarn_value.specs.Pairs.{put, value_under};
+ghost use Rattle.yarn_value.specs.Values.{IsShort};
+ghost use Rattle.yarn_value.specs.Visits.{count_name as count_name_of, number_in, visits as visits_of};
 
 use std::alloc::Global;
 use yarn_base::{Memory, Text};

@@ -1,6 +1,6 @@
 use Rattle.std.proofs.Common.{◌≡◌, [], Some, subst, sym, ap, ◌∙◌, rules}
 use Rattle.std.specs.Prelude.{MatchOption}
-use Rattle.yarn_store.specs.Pairs.{put}
+use Rattle.yarn_value.specs.Pairs.{put}
 use Rattle.yarn_store.specs.Variables.{StandsFor}
 use Rattle.yarn_store.specs.Steps.{IsPairLine}
 use Rattle.yarn_store.proofs.ReadingLemmas.{not_empty, found_there, found_none, put-new, after_line-name, after_line-new, after_line-other}

@@ -1,6 +1,6 @@
 use Rattle.std.proofs.Common.{◌≡◌, OnOk, None, sym, subst, rules, arith}
 use Rattle.std.proofs.lemmas.Grind.{common_steps}
-use Rattle.yarn_store.specs.Pairs.{value_under}
+use Rattle.yarn_value.specs.Pairs.{value_under}
 use Rattle.yarn_walker.proofs.VariableLemmas.{with_missing_one-new}
 use Rattle.yarn_walker.proofs.variables.keep.Goals as goal
 

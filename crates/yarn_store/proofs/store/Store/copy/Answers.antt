@@ -1,5 +1,5 @@
 use Rattle.std.proofs.Common.{◌≡◌, ap, ◌∙◌, rules}
-use Rattle.yarn_store.specs.Pairs.{put}
+use Rattle.yarn_value.specs.Pairs.{put}
 use Rattle.yarn_store.proofs.WritingLemmas.{copied-step, pair_in_store}
 use Rattle.yarn_store.proofs.store.Store.copy.Goals as goal
 

@@ -1,5 +1,5 @@
 use Rattle.std.proofs.Common.{ap, ◌∙◌}
-use Rattle.yarn_store.specs.Pairs.{value_under}
+use Rattle.yarn_value.specs.Pairs.{value_under}
 use Rattle.yarn_store.proofs.PairLemmas.{value_under-lookup}
 use Rattle.yarn_store.proofs.store.Store.get.Goals as goal
 

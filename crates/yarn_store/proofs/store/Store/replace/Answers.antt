@@ -1,6 +1,7 @@
 use Rattle.std.proofs.Common.{Some, ap, sym, ◌∙◌, subst}
 use Rattle.std.specs.Prelude.{IsSome}
-use Rattle.yarn_store.specs.Pairs.{IsShort, value_under, put}
+use Rattle.yarn_value.specs.Values.{IsShort}
+use Rattle.yarn_value.specs.Pairs.{value_under, put}
 use Rattle.yarn_store.proofs.PairLemmas.{put-set_value_at, All-set, store-set, value_under-lookup, there_not_found}
 use Rattle.yarn_store.proofs.store.Store.replace.Goals as goal
 

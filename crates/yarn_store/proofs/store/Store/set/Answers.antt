@@ -1,5 +1,5 @@
 use Rattle.std.proofs.Common.{ap, sym, ◌∙◌}
-use Rattle.yarn_store.specs.Pairs.{value_under, put}
+use Rattle.yarn_value.specs.Pairs.{value_under, put}
 use Rattle.yarn_store.proofs.PairLemmas.{store_of, put-insert_entry, All-put, value_under-lookup}
 use Rattle.yarn_store.proofs.store.Store.set.Goals as goal
 
