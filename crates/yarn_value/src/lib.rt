@@ -1,7 +1,8 @@
-//! Values, what the operators and builtins do with them, quoted strings and templates.
+//! Values, what the operators and builtins do with them, quoted strings, templates, and the rows of a string table.
 #![tactic(auto)]
 
 mod arguments;
+mod base;
 mod builtin;
 mod fault;
 mod mark;
@@ -17,6 +18,7 @@ mod template;
 mod tests;
 mod value;
 
+pub use base::{Base, BaseLine};
 pub use builtin::{BUILTINS, Builtin, Builtins, Param, find_builtin};
 pub use fault::{OpFault, RunFault};
 pub use operation::{Op, apply, quotients_are_exact};
