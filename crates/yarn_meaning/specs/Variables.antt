@@ -11,7 +11,7 @@ use Rattle.yarn_blocks.specs.declared.entry.Simple.TheVariants as simple
 use Rattle.yarn_blocks.specs.Tree.{Stmt, Leaf, Group, Choice, Stmts, Nil, Cons, Options, NoOptions, AndOption, Clauses, NoClauses, AndClause, Last, NoElse, ElseOf}
 use Rattle.yarn_tree.specs.Trees.{NodeTree, FileTree}
 use Rattle.yarn_types.specs.declared.typed.TypedName.{TypedName}
-use Rattle.yarn_value.specs.Pairs.{value_under, Pairs}
+use Rattle.yarn_value.specs.Pairs.{with_missing, value_under, Pairs}
 use Rattle.yarn_value.specs.Visits.{count_name}
 
 -- ---- what is declared, in order of the text
@@ -85,15 +85,6 @@ abbrev pub variables_of : List TypedName → List FileTree → Pairs
 variables_of entries files = typed_pairs (declared_in_files files) entries ++ counts_of files
 
 -- ---- the store with which a run begins
-
--- a pair is put last, where none has its name
-abbrev pub with_missing_one : Pairs → List ℕ → Value → Option Value → Pairs
-with_missing_one store name value (Some there) = store
-with_missing_one store name value None = store ++ (name, value) ∷ []
-
-abbrev pub with_missing : Pairs → Pairs → Pairs
-with_missing store [] = store
-with_missing store (p ∷ ps) = with_missing (with_missing_one store p.0 p.1 (value_under store p.0)) ps
 
 -- the pairs that are given, and then each variable that they lack
 abbrev pub first_store : Pairs → List TypedName → List FileTree → Pairs

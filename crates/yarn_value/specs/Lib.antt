@@ -17,3 +17,4 @@ pub mod Signatures
 pub mod Evaluation
 pub mod Visits
 pub mod Replies
+pub mod Calls

@@ -1,5 +1,5 @@
 -- Variables with their values, in order (docs/language.md, The meaning).
-use Rattle.std.specs.Prelude.{◌≡◌, ℕ, List, [], ◌∷◌, nat_eq, Bool, if◌then◌else◌, Option, Some, None, ⊤}
+use Rattle.std.specs.Prelude.{◌≡◌, ℕ, List, [], ◌∷◌, ◌++◌, nat_eq, Bool, if◌then◌else◌, Option, Some, None, ⊤}
 use Rattle.std.specs.Cmp.Lexicographic.{pointwise}
 use Rattle.yarn_value.specs.declared.value.Value.{Value}
 
@@ -26,3 +26,13 @@ put (p ∷ ps) name value = if same_name name p.0 then (p.0, value) ∷ ps else 
 abbrev pub AreDistinct : Pairs → Type 0
 AreDistinct [] = ⊤
 AreDistinct (p ∷ ps) = (value_under ps p.0 ≡ None) × AreDistinct ps
+
+-- a pair is put last, where none has its name
+abbrev pub with_missing_one : Pairs → List ℕ → Value → Option Value → Pairs
+with_missing_one store name value (Some there) = store
+with_missing_one store name value None = store ++ (name, value) ∷ []
+
+-- the pairs of a store, and then those of others whose names it lacks
+abbrev pub with_missing : Pairs → Pairs → Pairs
+with_missing store [] = store
+with_missing store (p ∷ ps) = with_missing (with_missing_one store p.0 p.1 (value_under store p.0)) ps

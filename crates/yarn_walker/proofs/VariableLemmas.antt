@@ -5,9 +5,9 @@ use Rattle.std.specs.Prelude.{unwrap_or}
 use Rattle.yarn_blocks.proofs.HeldLemmas.{or-assoc}
 use Rattle.yarn_value.specs.declared.value.Value.{Value}
 use Rattle.yarn_types.specs.declared.typed.TypedName.{TypedName}
-use Rattle.yarn_value.specs.Pairs.{same_name, value_under, put, Pairs}
+use Rattle.yarn_value.specs.Pairs.{same_name, value_under, put, Pairs, with_missing, with_missing_one}
 use Rattle.yarn_store.proofs.LineReadingLemmas.{same_bytes-true}
-use Rattle.yarn_meaning.specs.Variables.{with_missing, with_missing_one, first_value, plain_value, typed_pairs}
+use Rattle.yarn_meaning.specs.Variables.{first_value, plain_value, typed_pairs}
 use Rattle.yarn_walker.specs.Variables.{pairs_of}
 use Rattle.yarn_walker.specs.declared.variables.Variable.{Variable}
 

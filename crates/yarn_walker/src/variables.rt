@@ -2,10 +2,10 @@
 ghost use Rattle.std.specs.Prelude.{◌≡◌, ◌++◌, [], map, IfOk, OnOk, IsTrue};
 ghost use Rattle.std.specs.Option.{option_copied};
 ghost use Rattle.yarn_store.specs.Pairs.{IsPair};
-ghost use Rattle.yarn_value.specs.Pairs.{value_under};
+ghost use Rattle.yarn_value.specs.Pairs.{value_under, with_missing, with_missing_one};
 ghost use Rattle.yarn_tree.specs.Trees.{file_tree, node_tree};
 ghost use Rattle.yarn_blocks.specs.View.{stmt_of, stmts_of, options_of, clauses_of, last_of};
-ghost use Rattle.yarn_meaning.specs.Variables.{variables_of, typed_pairs, counts_in, first_value as first_value_of, plain_value as plain_value_of, first_store as first_store_of, first_other as first_other_of, is_other_kind as is_other_kind_of, with_missing, with_missing_one, declared_in, declared_in_one, declared_in_options, declared_in_clauses, declared_in_last, declared_in_nodes, declared_in_files};
+ghost use Rattle.yarn_meaning.specs.Variables.{variables_of, typed_pairs, counts_in, first_value as first_value_of, plain_value as plain_value_of, first_store as first_store_of, first_other as first_other_of, is_other_kind as is_other_kind_of, declared_in, declared_in_one, declared_in_options, declared_in_clauses, declared_in_last, declared_in_nodes, declared_in_files};
 ghost use Rattle.yarn_walker.specs.Variables.{pairs_of};
 
 use crate::stored::{count_name, is_short};

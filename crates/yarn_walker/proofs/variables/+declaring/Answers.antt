@@ -2,7 +2,8 @@ use Rattle.std.proofs.Common.{◌≡◌, OnOk, ap, sym, subst, ◌∙◌, arith}
 use Rattle.std.proofs.lemmas.Grind.{common_steps}
 use Rattle.yarn_blocks.specs.View.{stmt_of, clauses_of, last_of}
 use Rattle.yarn_blocks.proofs.Views.{options_view, if_view}
-use Rattle.yarn_meaning.specs.Variables.{with_missing, declared_in_one, declared_in_clauses, declared_in_last}
+use Rattle.yarn_meaning.specs.Variables.{declared_in_one, declared_in_clauses, declared_in_last}
+use Rattle.yarn_value.specs.Pairs.{with_missing}
 use Rattle.yarn_walker.proofs.VariableLemmas.{with_missing-append}
 use Rattle.yarn_walker.proofs.variables.+declaring.Goals as goal
 

@@ -1,6 +1,7 @@
 use Rattle.std.proofs.Common.{◌≡◌, drop}
 use Rattle.yarn_blocks.specs.View.{stmts_of, options_of, clauses_of}
-use Rattle.yarn_meaning.specs.Variables.{with_missing, declared_in, declared_in_options, declared_in_clauses}
+use Rattle.yarn_meaning.specs.Variables.{declared_in, declared_in_options, declared_in_clauses}
+use Rattle.yarn_value.specs.Pairs.{with_missing}
 use Rattle.yarn_walker.proofs.variables.+declaring.Given as goal
 
 abbrev pub invariant-declare_body-loop-statement : goal.invariant-declare_body-loop-statement

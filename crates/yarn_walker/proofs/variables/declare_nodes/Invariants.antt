@@ -1,6 +1,7 @@
 use Rattle.std.proofs.Common.{◌≡◌, drop, map}
 use Rattle.yarn_tree.specs.Trees.{node_tree}
-use Rattle.yarn_meaning.specs.Variables.{with_missing, declared_in_nodes}
+use Rattle.yarn_meaning.specs.Variables.{declared_in_nodes}
+use Rattle.yarn_value.specs.Pairs.{with_missing}
 use Rattle.yarn_walker.proofs.variables.declare_nodes.Given as goal
 
 abbrev pub invariant-loop-node : goal.invariant-loop-node

@@ -1,5 +1,5 @@
 use Rattle.std.proofs.Common.{◌≡◌}
-use Rattle.yarn_meaning.specs.Variables.{with_missing}
+use Rattle.yarn_value.specs.Pairs.{with_missing}
 use Rattle.yarn_walker.specs.Variables.{pairs_of}
 use Rattle.yarn_walker.proofs.variables.first_store.Given as goal
 
