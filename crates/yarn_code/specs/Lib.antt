@@ -1,6 +1,11 @@
 -- The definitions that the contracts cite.
 pub mod Answer
+pub mod Answers
 pub mod Moments
+pub mod Parts
+pub mod MachineState
+pub mod Machine
+pub mod Runs
 pub mod Next
 pub mod Scan
 pub mod Taking

@@ -2,7 +2,7 @@
 use Rattle.std.specs.Prelude.{ℕ, zero, suc, List, [], ◌∷◌}
 use Rattle.yarn_value.specs.declared.value.Value.{Value}
 use Rattle.yarn_value.specs.declared.fault.RunFault.{RunFault}
-use Rattle.yarn_value.specs.Pairs.{Pairs}
+use Rattle.yarn_value.specs.Pairs.{Pairs, put}
 use Rattle.yarn_value.specs.Tape.{Tape}
 use Rattle.yarn_code.specs.declared.event.Event.{Event}
 use Rattle.yarn_code.specs.declared.event.Event.TheVariants as event
@@ -12,6 +12,15 @@ pub record State : Type 0 where
   pub store : Pairs
   pub answers : List ℕ
   pub tape : Tape
+
+abbrev pub with_tape : Tape → State → State
+with_tape t st = record { store = st.store; answers = st.answers; tape = t }
+
+abbrev pub with_answers : List ℕ → State → State
+with_answers bytes st = record { store = st.store; answers = bytes; tape = st.tape }
+
+abbrev pub with_value : List ℕ → Value → State → State
+with_value name value st = record { store = put st.store name value; answers = st.answers; tape = st.tape }
 
 -- an event, with the state as it is given
 pub record Moment : Type 0 where

@@ -1,12 +1,14 @@
-//! What a conversation gives and takes: its events, and the answers of the player.
+//! What a conversation gives and takes, and the programs that the machine runs.
 #![tactic(auto)]
 
 mod answer;
 mod event;
 mod next;
+mod program;
 mod scan;
 #[cfg(test)]
 mod tests;
 
 pub use answer::take_answer;
 pub use event::{Choice, Event};
+pub use program::{CodeNode, Coded, Instr, Program, Variable};

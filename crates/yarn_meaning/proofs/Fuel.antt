@@ -6,11 +6,11 @@ use Rattle.yarn_value.specs.declared.fault.RunFault.TheVariants as run
 use Rattle.yarn_value.specs.declared.signature.Signature.{Signature}
 use Rattle.yarn_value.specs.Operations.{number}
 use Rattle.yarn_code.specs.declared.event.Event.TheVariants as event
-use Rattle.yarn_code.specs.Moments.{State, Moment, moment, Stand, Waits, Behaviour, stands, emit, emit_all, finishes}
+use Rattle.yarn_code.specs.Moments.{State, Moment, moment, Stand, Waits, Behaviour, stands, emit, emit_all, finishes, with_value}
 use Rattle.yarn_tree.specs.Trees.{FileTree}
 use Rattle.yarn_value.specs.Evaluation.{Halt}
 use Rattle.yarn_value.specs.Visits.{count_name, visits}
-use Rattle.yarn_meaning.specs.Does.{Done, Exit, Through, Jumps, Stops, Halted, Waiting, does_all, with_value}
+use Rattle.yarn_meaning.specs.Does.{Done, Exit, Through, Jumps, Stops, Halted, Waiting, does_all}
 use Rattle.yarn_meaning.specs.First.{Placed, Piece, Going, Exits, find, at_node, faults_at, halts_at, counted, leaves, scope_of, entered, in_node, enters, exits_of, left, after, in_piece, from}
 
 -- a relation of behaviours within the next n events

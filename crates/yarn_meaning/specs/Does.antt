@@ -11,11 +11,12 @@ use Rattle.yarn_blocks.specs.declared.tree.LineText.{LineText}
 use Rattle.yarn_blocks.specs.Tree as T
 use Rattle.yarn_blocks.specs.Tree.{Leaf, Group, Nil, Cons, NoOptions, AndOption, NoClauses, AndClause, NoElse, ElseOf, Offered}
 use Rattle.yarn_value.specs.Pairs.{put, Pairs}
-use Rattle.yarn_code.specs.Answer.{Answered, answer_of}
+use Rattle.yarn_code.specs.Answer.{answer_of}
+use Rattle.yarn_code.specs.Answers.{chooses, any_open, less_one, at_answer}
 use Rattle.yarn_code.specs.declared.event.Event.{Event}
 use Rattle.yarn_code.specs.declared.event.Event.TheVariants as event
 use Rattle.yarn_code.specs.declared.event.Choice.{Choice}
-use Rattle.yarn_code.specs.Moments.{State, Moment, moment}
+use Rattle.yarn_code.specs.Moments.{State, Moment, moment, with_tape, with_answers, with_value}
 use Rattle.yarn_value.specs.Tape.{Tape}
 use Rattle.yarn_meaning.specs.Eval.{eval, eval_all, operated, binary_op, stored}
 use Rattle.yarn_value.specs.Evaluation.{Scope, Halt, Faults, Evaluated, Gives, given, and_then}
@@ -60,15 +61,6 @@ goes_on Waiting ms st b next = record { moments = ms; exit = Waiting; state = st
 abbrev pub and_on : Done → T.Stmts → (State → Done) → Done
 and_on d b next = goes_on d.exit d.moments d.state b next
 
-abbrev pub with_tape : Tape → State → State
-with_tape t st = record { store = st.store; answers = st.answers; tape = t }
-
-abbrev pub with_answers : List ℕ → State → State
-with_answers bytes st = record { store = st.store; answers = bytes; tape = st.tape }
-
-abbrev pub with_value : List ℕ → Value → State → State
-with_value name value st = record { store = put st.store name value; answers = st.answers; tape = st.tape }
-
 -- goes on with what was evaluated on that line
 abbrev pub using : {A : Type 0} → ℕ → Evaluated A → State → (A → State → Done) → Done
 using line evaluated st next = given evaluated (λ v t. next v (with_tape t st)) (λ h t. done (Halted line h) (with_tape t st))
@@ -82,29 +74,6 @@ abbrev pub title_in : Value → List ℕ
 title_in (Str text) = text
 title_in (Number n) = []
 title_in (Truth b) = []
-
--- the answer is the number of an option, from 0, that can be chosen
-abbrev pub is_open : ℕ → List Choice → Bool
-is_open n [] = false
-is_open zero (c ∷ cs) = c.available
-is_open (suc n) (c ∷ cs) = is_open n cs
-
--- the same of an answer from 1
-abbrev pub chooses : ℕ → List Choice → Bool
-chooses zero cs = false
-chooses (suc n) cs = is_open n cs
-
-abbrev pub any_open : List Choice → Bool
-any_open [] = false
-any_open (c ∷ cs) = if c.available then true else any_open cs
-
-abbrev pub less_one : ℕ → ℕ
-less_one zero = 0
-less_one (suc n) = n
-
-abbrev pub at_answer : {R : Type 0} → Option Answered → R → (ℕ → List ℕ → R) → R
-at_answer None none some = none
-at_answer (Some a) none some = some a.number a.rest
 
 -- takes answers, at most so many, until one chooses an option
 abbrev pub picked : ℕ → List Choice → State → (ℕ → State → Done) → Done

@@ -8,11 +8,11 @@ use Rattle.yarn_value.specs.declared.signature.Signature.{Signature}
 use Rattle.yarn_value.specs.Operations.{number}
 use Rattle.yarn_tree.specs.Trees.{NodeTree, FileTree}
 use Rattle.yarn_code.specs.declared.event.Event.TheVariants as event
-use Rattle.yarn_code.specs.Moments.{State, Stand, Waits, Behaviour, Outcome, stands, emit, emit_all, finishes, moment}
+use Rattle.yarn_code.specs.Moments.{State, Stand, Waits, Behaviour, Outcome, stands, emit, emit_all, finishes, moment, with_value}
 use Rattle.yarn_code.specs.Moments as moments
 use Rattle.yarn_value.specs.Evaluation.{Scope, Halt, Faults, Asks, BadReply}
 use Rattle.yarn_value.specs.Visits.{count_name, visits}
-use Rattle.yarn_meaning.specs.Does.{Exit, Through, Jumps, Stops, Halted, Waiting, Done, does_all, with_value}
+use Rattle.yarn_meaning.specs.Does.{Exit, Through, Jumps, Stops, Halted, Waiting, Done, does_all}
 
 -- ---- nodes
 

@@ -2,7 +2,7 @@
 ghost use Rattle.std.specs.Prelude.{◌≡◌, ◌<◌, [], length, take, slice_get, map, Some, None, IsSome, IfOk, IfErr, OnOk, OnErr};
 ghost use Rattle.std.specs.Option.{option_copied, option_map};
 ghost use Rattle.yarn_store.specs.Pairs.{IsPair, IsStore};
-ghost use Rattle.yarn_value.specs.Pairs.{value_under, put, Pair};
+ghost use Rattle.yarn_value.specs.Pairs.{value_under, put};
 ghost use Rattle.yarn_value.specs.Values.{IsShort};
 
 use indexmap::IndexMap;
@@ -24,6 +24,7 @@ pub struct Store {
 
 impl Model for Store {
     ghost use Rattle.std.specs.Prelude.{List, All};
+    ghost use Rattle.yarn_value.specs.Pairs.{Pair};
     ghost use Rattle.yarn_store.specs.Pairs.{IsPair};
 
     ghost Value = { List Pair };

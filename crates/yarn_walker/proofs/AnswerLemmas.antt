@@ -11,9 +11,10 @@ use Rattle.yarn_code.specs.Answer.{Answered, answered, answer_of, taken, to_lf}
 use Rattle.yarn_code.specs.declared.event.Event.{Event}
 use Rattle.yarn_code.specs.declared.event.Event.TheVariants as event
 use Rattle.yarn_code.specs.declared.event.Choice.{Choice}
-use Rattle.yarn_code.specs.Moments.{State, Moment, moment, emit}
+use Rattle.yarn_code.specs.Moments.{State, Moment, moment, emit, with_answers}
 use Rattle.yarn_value.specs.Pairs.{Pairs}
-use Rattle.yarn_meaning.specs.Does.{Exit, Through, Jumps, Stops, Halted, Waiting, Done, done, prefixed, showing, goes_on, and_on, with_answers, is_open, chooses, less_one, at_answer, picked, waits, any_open, group_line, does, does_all, does_option}
+use Rattle.yarn_meaning.specs.Does.{Exit, Through, Jumps, Stops, Halted, Waiting, Done, done, prefixed, showing, goes_on, and_on, picked, waits, group_line, does, does_all, does_option}
+use Rattle.yarn_code.specs.Answers.{is_open, chooses, less_one, at_answer, any_open}
 use Rattle.yarn_meaning.specs.First.{Placed, after, exits_of, in_body, from}
 use Rattle.yarn_meaning.specs.Texts.{Table, Tells, TellsAll, said_in, said_in_options}
 use Rattle.yarn_walker.specs.declared.offer.Offer.{Offer}

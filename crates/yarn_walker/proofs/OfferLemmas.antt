@@ -13,7 +13,8 @@ use Rattle.yarn_code.specs.declared.event.Choice.{Choice}
 use Rattle.yarn_code.specs.Moments.{State}
 use Rattle.yarn_value.specs.Pairs.{Pairs}
 use Rattle.yarn_value.specs.Evaluation.{Evaluated, Gives, Halts, Faults}
-use Rattle.yarn_meaning.specs.Does.{Done, Halted, done, using, choice_of, with_choices, any_open}
+use Rattle.yarn_meaning.specs.Does.{Done, Halted, done, using, choice_of, with_choices}
+use Rattle.yarn_code.specs.Answers.{any_open}
 use Rattle.yarn_walker.specs.States.{at}
 use Rattle.yarn_walker.specs.Means.{Means, IsAtLine}
 use Rattle.yarn_walker.specs.Offers.{all_shown, Offers, OffersOne}

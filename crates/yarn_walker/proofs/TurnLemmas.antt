@@ -13,7 +13,8 @@ use Rattle.yarn_code.specs.declared.event.Event.{Event}
 use Rattle.yarn_code.specs.declared.event.Event.TheVariants as event
 use Rattle.yarn_code.specs.Moments.{State, Stand, Behaviour, moment, stands, emit, finishes, Faults}
 use Rattle.yarn_value.specs.Pairs.{Pairs}
-use Rattle.yarn_meaning.specs.Does.{Done, Through, Jumps, Stops, done, showing, and_on, waits, any_open, group_line, does_all, does_option}
+use Rattle.yarn_meaning.specs.Does.{Done, Through, Jumps, Stops, done, showing, and_on, waits, group_line, does_all, does_option}
+use Rattle.yarn_code.specs.Answers.{any_open}
 use Rattle.yarn_meaning.specs.First.{Placed, nodes_at, nodes_from, first_titled, find, leaves, after, exits_of, from, faults_at}
 use Rattle.yarn_meaning.specs.Texts.{Table, Tells, TellsAll, said_in, said_in_one, said_in_nodes, said_in_files}
 use Rattle.yarn_walker.specs.States.{at}

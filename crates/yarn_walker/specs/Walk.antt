@@ -13,7 +13,8 @@ use Rattle.yarn_code.specs.declared.event.Event.TheVariants as event
 use Rattle.yarn_code.specs.declared.event.Choice.{Choice}
 use Rattle.yarn_code.specs.Moments.{State, Behaviour, moment, stands, emit, finishes, Limit, Faults, Waits as IsWaiting}
 use Rattle.yarn_value.specs.Pairs.{Pairs}
-use Rattle.yarn_meaning.specs.Does.{and_on, waits, group_line, does_all, does_option, any_open, chooses, less_one}
+use Rattle.yarn_meaning.specs.Does.{and_on, waits, group_line, does_all, does_option}
+use Rattle.yarn_code.specs.Answers.{any_open, chooses, less_one}
 use Rattle.yarn_meaning.specs.Filled.{filled}
 use Rattle.yarn_meaning.specs.First.{Placed, leaves, after, exits_of, in_body, in_node, from, faults_at}
 use Rattle.yarn_meaning.specs.Texts.{Table, Tells, TellsAll, said_in, said_in_options, said_in_files}

@@ -1,7 +1,8 @@
 //! The options of a group as they are shown.
 ghost use Rattle.std.specs.Prelude.{◌≡◌, [], IfOk};
 ghost use Rattle.yarn_blocks.specs.View.{options_of};
-ghost use Rattle.yarn_meaning.specs.Does.{any_open as any_open_of, asked};
+ghost use Rattle.yarn_meaning.specs.Does.{asked};
+ghost use Rattle.yarn_code.specs.Answers.{any_open as any_open_of};
 ghost use Rattle.yarn_walker.specs.Means.{Means};
 ghost use Rattle.yarn_walker.specs.Offers.{all_shown, Offers, OffersOne, AreOf};
 

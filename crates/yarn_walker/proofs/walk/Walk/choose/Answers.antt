@@ -1,7 +1,7 @@
 use Rattle.std.proofs.Common.{◌≡◌, true, false, Some, [], refl, sym, ap, subst, ◌∙◌}
 use Rattle.yarn_blocks.specs.Tree.{stmts_then}
 use Rattle.yarn_blocks.specs.View.{stmts_of, options_of}
-use Rattle.yarn_meaning.specs.Does.{any_open, chooses}
+use Rattle.yarn_code.specs.Answers.{any_open, chooses}
 use Rattle.yarn_meaning.specs.First.{in_body, from}
 use Rattle.yarn_meaning.specs.Texts.{TellsAll, said_in}
 use Rattle.yarn_walker.specs.States.{at}

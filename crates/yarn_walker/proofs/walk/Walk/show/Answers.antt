@@ -3,7 +3,8 @@ use Rattle.yarn_blocks.specs.View.{options_of}
 use Rattle.yarn_value.specs.declared.fault.RunFault.TheVariants.{NoOpenOption}
 use Rattle.yarn_code.specs.declared.event.Event.TheVariants as event
 use Rattle.yarn_code.specs.Moments.{Faults, moment, emit}
-use Rattle.yarn_meaning.specs.Does.{any_open, group_line}
+use Rattle.yarn_meaning.specs.Does.{group_line}
+use Rattle.yarn_code.specs.Answers.{any_open}
 use Rattle.yarn_meaning.specs.First.{faults_at}
 use Rattle.yarn_walker.specs.Faults.{fault_of}
 use Rattle.yarn_walker.specs.Frames.{rest_of}
