@@ -25,3 +25,14 @@ meaning_of w =
     else if is_spelled w (codes "true") then Literal true
     else if is_spelled w (codes "false") then Literal false
     else Name
+
+-- a word with a meaning of its own
+abbrev pub is_no_name : WordMeaning → Bool
+is_no_name (Operator op) = true
+is_no_name Negation = true
+is_no_name (Literal value) = true
+is_no_name Name = false
+
+-- a reserved word
+abbrev pub is_reserved : List ℕ → Bool
+is_reserved word = is_no_name (meaning_of word)

@@ -31,3 +31,4 @@ pub use scan::{Class, cut, first_char};
 pub use token::{Sign, Token};
 pub use tokenize::{Step, next_token, tokenize as read_tokens};
 pub use tree::{BinaryOp, Expr, UnaryOp};
+pub use word::is_reserved;

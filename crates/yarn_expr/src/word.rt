@@ -1,6 +1,6 @@
 //! The reserved words of an expression.
 ghost use Rattle.std.specs.Prelude.{◌≡◌};
-ghost use Rattle.yarn_expr.specs.Word.{meaning_of};
+ghost use Rattle.yarn_expr.specs.Word.{meaning_of, is_reserved};
 
 use crate::BinaryOp;
 
@@ -32,5 +32,16 @@ pub(crate) fn word_meaning(word: &str) -> WordMeaning
         "true" => WordMeaning::Literal(true),
         "false" => WordMeaning::Literal(false),
         _ => WordMeaning::Name,
+    }
+}
+
+/// Whether a word is reserved, so that it can be no function's name. The words are those of docs/language.md, "Tokens
+/// and expressions".
+pub fn is_reserved(word: &str) -> bool
+    ensures { result ≡ is_reserved word.now }
+{
+    match word_meaning(word) {
+        WordMeaning::Operator(_) | WordMeaning::Negation | WordMeaning::Literal(_) => true,
+        WordMeaning::Name => false,
     }
 }
