@@ -3,6 +3,7 @@ pub mod Answer
 pub mod Answers
 pub mod Moments
 pub mod Parts
+pub mod Fields
 pub mod MachineState
 pub mod Machine
 pub mod Runs

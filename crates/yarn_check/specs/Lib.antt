@@ -1,0 +1,8 @@
+-- The definitions that the contracts cite.
+pub mod Shapes
+pub mod Faults
+pub mod Pass
+pub mod PassLaws
+pub mod Shaped
+pub mod Fits
+pub mod Laws
