@@ -25,7 +25,7 @@ use Rattle.yarn_check.specs.Shaped.{IsStored, IsIn, Shaped}
 use Rattle.yarn_check.specs.Fits.{Parts, Fits, rebuilt, parts_of}
 
 -- a valid program, each of whose fields is as it may be
-pub record IsSound (p : Program) : Type 0 where
+pub record IsRunnable (p : Program) : Type 0 where
   pub valid : IsValid p
   pub fields : HasFields p
 
@@ -61,7 +61,7 @@ IsStep p (StandsAt stand w) = TapeFits w.state.tape
 IsStep p Stuck = ⊥
 
 abbrev pub Steps : Type 0
-Steps = (p : Program) (w : MachineState) → IsSound p → IsGood p w → IsStep p (next p w)
+Steps = (p : Program) (w : MachineState) → IsRunnable p → IsGood p w → IsStep p (next p w)
 
 -- a start that is there, with a store whose values fit and are of their variables' kinds, where it has these
 abbrev pub Begins : Type 0
@@ -70,7 +70,7 @@ Begins = (p : Program) (start : List ℕ) (st : State) → IsIn p start (λ n. �
 -- ---- no state is stuck
 
 abbrev pub NeverStuck : Type 0
-NeverStuck = (p : Program) (w : MachineState) → IsSound p → IsGood p w → next p w ≡ Stuck → ⊥
+NeverStuck = (p : Program) (w : MachineState) → IsRunnable p → IsGood p w → next p w ≡ Stuck → ⊥
 
 -- the next reply was given to this question, and is of the declared kind and no text over 65,536 bytes
 pub record HasReply (p : Program) (name : List ℕ) (args : List Value) (tape : Tape) : Type 0 where
@@ -106,7 +106,7 @@ MakesStep Stuck = ⊥
 
 -- for each answer and each right reply a state that isn't over makes a step, the one that `next` gives
 abbrev pub StepsOn : Type 0
-StepsOn = (p : Program) (w : MachineState) → IsSound p → IsGood p w → HasInput p w.doing w.state → MakesStep (next p w)
+StepsOn = (p : Program) (w : MachineState) → IsRunnable p → IsGood p w → HasInput p w.doing w.state → MakesStep (next p w)
 
 -- a right reply is taken: it is pushed
 abbrev pub TakesReply : Type 0
@@ -160,7 +160,7 @@ Comes p (suc most) ticks w = spends w.doing ticks (λ left. ComesBy (Comes p mos
 
 -- within as many ticks as the node has instructions
 abbrev pub ComesSoon : Type 0
-ComesSoon = (p : Program) (w : MachineState) (n : CodeNode) → IsSound p → IsGood p w → code_titled w.here.node p.nodes ≡ Some n → Comes p (length n.code + 3) (length n.code) w
+ComesSoon = (p : Program) (w : MachineState) (n : CodeNode) → IsRunnable p → IsGood p w → code_titled w.here.node p.nodes ≡ Some n → Comes p (length n.code + 3) (length n.code) w
 
 -- ---- runs
 
@@ -170,14 +170,14 @@ pub record HasOutcome (p : Program) (w : MachineState) (k : ℕ) : Type 0 where
   pub first : Reaches p w k outcome
   pub alone : (r : Ran) → Reaches p w k r → r ≡ outcome
 
-abbrev pub Ends : Type 0
-Ends = (p : Program) (w : MachineState) (k : ℕ) → IsSound p → IsGood p w → HasOutcome p w k
+abbrev pub HaveOutcomes : Type 0
+HaveOutcomes = (p : Program) (w : MachineState) (k : ℕ) → IsRunnable p → IsGood p w → HasOutcome p w k
 
 -- ---- states as plain data
 
 -- a state whose parts fit is shaped
 abbrev pub RebuildsShaped : Type 0
-RebuildsShaped = (p : Program) (s : Parts) (answers : List ℕ) (tape : Tape) → IsSound p → Fits p s → Shaped p (rebuilt s answers tape)
+RebuildsShaped = (p : Program) (s : Parts) (answers : List ℕ) (tape : Tape) → IsRunnable p → Fits p s → Shaped p (rebuilt s answers tape)
 
 -- a shaped state that rests fits, and is that of its parts
 pub record IsOfParts (p : Program) (rest : Rest) (w : MachineState) : Type 0 where
@@ -185,4 +185,4 @@ pub record IsOfParts (p : Program) (rest : Rest) (w : MachineState) : Type 0 whe
   pub again : rebuilt (parts_of rest w) w.state.answers w.state.tape ≡ w
 
 abbrev pub PartsFit : Type 0
-PartsFit = (p : Program) (w : MachineState) (rest : Rest) → IsSound p → Shaped p w → w.doing ≡ Rests rest → IsOfParts p rest w
+PartsFit = (p : Program) (w : MachineState) (rest : Rest) → IsRunnable p → Shaped p w → w.doing ≡ Rests rest → IsOfParts p rest w
