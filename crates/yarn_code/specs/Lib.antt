@@ -4,6 +4,7 @@ pub mod Answers
 pub mod Moments
 pub mod Parts
 pub mod Fields
+pub mod Kinds
 pub mod MachineState
 pub mod Machine
 pub mod Runs

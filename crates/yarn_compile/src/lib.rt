@@ -1,0 +1,6 @@
+//! What the code of a project is, and that it means what the project means.
+#![tactic(auto)]
+
+mod laws;
+
+pub use laws::definitions_stand;

@@ -1,0 +1,15 @@
+pub mod Fitting
+pub mod Parts
+pub mod Evaluations
+pub mod Operations
+pub mod Operators
+pub mod Builtins
+pub mod Calls
+pub mod Values
+pub mod Stores
+pub mod Asked
+pub mod Statements
+pub mod Runs
+pub mod Strict
+pub mod Begins
+pub mod Begun
