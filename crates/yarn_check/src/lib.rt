@@ -3,4 +3,4 @@
 
 mod laws;
 
-pub use laws::definitions_stand;
+pub use laws::{check_is_exact, look_is_exact, pass_is_exact};
