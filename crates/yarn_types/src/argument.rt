@@ -17,7 +17,7 @@ use yarn_expr::Expr;
 use yarn_value::{Builtin, Param, find_builtin};
 
 /// The builtin of that name.
-#[tactic(auto, unfolding(crate::specs::Fits::builtin_named))]
+#[tactic(auto, unfolding(yarn_value::specs::Builtins::builtin_named))]
 pub(crate) fn builtin(name: &Text) -> Option<Builtin>
     ensures { option_map row_of result ≡ builtin_named name.now }
 {

@@ -177,7 +177,7 @@ fn takes_two(op: Op, first: Kind, second: Kind) -> bool
     }
 }
 
-#[tactic(auto, unfolding(yarn_meaning::specs::Eval::builtin_named))]
+#[tactic(auto, unfolding(yarn_value::specs::Builtins::builtin_named))]
 fn call(alloc: Global, name: &Text, args: &[Value], store: &Store) -> Result<Value, OpFault>
     ensures { Means (called [] store.now (builtin_named name.now) name.now args.now []) result }
 {

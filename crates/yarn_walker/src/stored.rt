@@ -13,7 +13,7 @@ use yarn_value::Value;
 const LONGEST_TEXT: usize = 65_536;
 
 /// The variable that counts how often the node of that title was left (docs/language.md, The meaning).
-#[tactic(auto, unfolding(yarn_meaning::specs::Eval::count_name))]
+#[tactic(auto, unfolding(yarn_value::specs::Visits::count_name))]
 pub(crate) fn count_name(alloc: Global, title: &Text) -> Result<Text, Memory>
     ensures { IfOk result (λ name. name ≡ count_name_of title.now) }
 {
