@@ -3,6 +3,7 @@ use Rattle.std.proofs.Common.{◌≡◌, ℕ, zero, suc, ◌+◌, ◌<◌, ◌�
 use mathlib.Core.Path.{ap₂}
 use Rattle.std.specs.List.{filter, list_any}
 use Rattle.std.proofs.lemmas.Bool.{and_parts, or_parts, false≢true, true≢false}
+use Rattle.std.proofs.lemmas.List.{append-nil}
 use Rattle.std.proofs.lemmas.List.Folds.{list_all-append}
 use Rattle.std.proofs.lemmas.Option.{none-some}
 use Rattle.yarn_base.specs.declared.Place.{Place}
@@ -385,3 +386,76 @@ module _ (signatures : List Signature) (units : List UnitAt) where
   is_kinding (Err (NoTyping place)) one explains = untyped_is place explains
   is_kinding (Err (ManyTypings name place)) one explains = open_is name place explains
   is_kinding (Err Memory) one explains = tt
+
+-- ---- what is typed has a list that fits
+
+-- the names of entries, and their kinds, are those of the list and the variables
+pub record IsFound (signatures : List Signature) (units : List UnitAt) (entries : List TypedName) : Type 0 where
+  pub kinds : List Kind
+  pub is : entries ≡ typed_names (variables_of units) kinds
+  pub fits : Fits signatures (variables_of units) units kinds
+
+first_in : (lists : List (List Kind)) → is_none lists ≡ false → In (first_list lists) lists
+first_in [] e = absurd (true≢false e)
+first_in (l ∷ lists) e = inl refl
+
+numbers : List Appearance → List Kind
+numbers [] = []
+numbers (v ∷ variables) = Number ∷ numbers variables
+
+numbers_length : (variables : List Appearance) → length (numbers variables) ≡ length variables
+numbers_length [] = refl
+numbers_length (v ∷ variables) = ap suc (numbers_length variables)
+
+module _ (signatures : List Signature) (variables : List Appearance) where
+  none_listed : is_none (typings signatures variables []) ≡ false
+  none_listed =
+      some_in (typings signatures variables []) (numbers variables)
+      (fits_in signatures variables [] (numbers variables) (record { counted = numbers_length variables; fits = refl }))
+
+  some_listed : (before units : List UnitAt) → is_none (typings signatures variables before) ≡ false → untyped_at signatures variables before units ≡ None →
+      is_none (typings signatures variables (before ++ units)) ≡ false
+  some_listed before [] some none = subst (λ us. is_none (typings signatures variables us) ≡ false) (sym (append-nil before)) some
+  some_listed before (u ∷ units) some none = by_test (is_none (typings signatures variables (before ++ u ∷ []))) refl
+    where
+      by_test : (is : Bool) → is_none (typings signatures variables (before ++ u ∷ [])) ≡ is → is_none (typings signatures variables (before ++ u ∷ units)) ≡ false
+      by_test true e =
+          absurd (none-some u.place (sym none ∙ pick_then (is_none (typings signatures variables (before ++ u ∷ []))) (Some u.place) (untyped_at signatures variables (before ++ u ∷ []) units) e))
+      by_test false e =
+          subst (λ us. is_none (typings signatures variables us) ≡ false) (append_assoc before (u ∷ []) units)
+          (some_listed (before ++ u ∷ []) units e
+          (sym (pick_else (is_none (typings signatures variables (before ++ u ∷ []))) (Some u.place) (untyped_at signatures variables (before ++ u ∷ []) units) e) ∙ none))
+
+module _ (signatures : List Signature) (units : List UnitAt) (entries : List TypedName) where
+  found_none : (o : Option Appearance) → one_or_open (variables_of units) (listed signatures units) o ≡ Typed entries → entries ≡ typed_names (variables_of units) (first_list (listed signatures units))
+  found_none None e = cc
+  found_none (Some v) e = absurd cc
+
+  found_by : (o : Option Place) → untyped_at signatures (variables_of units) [] units ≡ o → kinding_among (variables_of units) (listed signatures units) o ≡ Typed entries → IsFound signatures units entries
+  found_by (Some place) is e = absurd cc
+  found_by None is e =
+      record {
+        kinds = first_list (listed signatures units);
+        is = found_none (open_in (variables_of units) (listed signatures units)) e;
+        fits = in_fits signatures (variables_of units) units (first_list (listed signatures units))
+            (first_in (listed signatures units) (some_listed signatures (variables_of units) [] units (none_listed signatures (variables_of units)) is));
+      }
+
+  -- a kinding that is found comes from a list that fits
+  pub found : kinding_of signatures units ≡ Typed entries → IsFound signatures units entries
+  unfolding kinding_of
+  found e = found_by (untyped_at signatures (variables_of units) [] units) refl e
+
+-- ---- the names and kinds of entries
+
+pub kinds_back : (variables : List Appearance) (kinds : List Kind) → length kinds ≡ length variables → kinds_in (typed_names variables kinds) ≡ kinds
+kinds_back [] [] e = refl
+kinds_back [] (k ∷ kinds) e = absurd (omega arith)
+kinds_back (v ∷ variables) [] e = absurd (omega arith)
+kinds_back (v ∷ variables) (k ∷ kinds) e = ap (λ ks. k ∷ ks) (kinds_back variables kinds (omega arith))
+
+pub names_back : (variables : List Appearance) (kinds : List Kind) → length kinds ≡ length variables → names_in_entries (typed_names variables kinds) ≡ map (λ variable. variable.name) variables
+names_back [] [] e = refl
+names_back [] (k ∷ kinds) e = absurd (omega arith)
+names_back (v ∷ variables) [] e = absurd (omega arith)
+names_back (v ∷ variables) (k ∷ kinds) e = ap (λ ns. v.name ∷ ns) (names_back variables kinds (omega arith))

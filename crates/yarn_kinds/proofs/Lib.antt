@@ -1,5 +1,7 @@
 pub mod Fitting
 pub mod Parts
+pub mod Names
+pub mod Typed
 pub mod Evaluations
 pub mod Operations
 pub mod Operators
