@@ -30,6 +30,7 @@ use Rattle.yarn_kinds.proofs.Fitting.{FitsSimple, FitsAll, FitsOne, FitsOptions,
 use Rattle.yarn_code.specs.Kinds.{HasKind}
 use Rattle.yarn_kinds.specs.Kept.{titles_within, titles_of, HeldIsSound, CountIsStored}
 use Rattle.yarn_kinds.proofs.Asked.{in_kind}
+use Rattle.yarn_kinds.proofs.Typed.{files_fit as trees_fit}
 use Rattle.yarn_kinds.proofs.Stores.{names_same}
 
 -- ---- what is declared has the kind of its variable
@@ -84,9 +85,9 @@ module _ (signatures : List Signature) (entries : List TypedName) where
   nodes_fit [] all = All-nil IsFit
   nodes_fit (n ∷ ns) all = All-append IsFit (declared_in n.body) (declared_in_nodes ns) (all_fit n.body (All-head NodeFits n ns all)) (nodes_fit ns (All-tail NodeFits n ns all))
 
-  files_fit : (fs : List FileTree) → All FileFits fs → All IsFit (declared_in_files fs)
-  files_fit [] all = All-nil IsFit
-  files_fit (f ∷ fs) all = All-append IsFit (declared_in_nodes f.nodes) (declared_in_files fs) (nodes_fit f.nodes (All-head FileFits f fs all)) (files_fit fs (All-tail FileFits f fs all))
+  declared_fit : (fs : List FileTree) → All FileFits fs → All IsFit (declared_in_files fs)
+  declared_fit [] all = All-nil IsFit
+  declared_fit (f ∷ fs) all = All-append IsFit (declared_in_nodes f.nodes) (declared_in_files fs) (nodes_fit f.nodes (All-head FileFits f fs all)) (declared_fit fs (All-tail FileFits f fs all))
 
   -- the value that is declared of a variable
   declared_kind : (ps : Pairs) (name : List ℕ) (value : Value) → All IsFit ps → value_under ps name ≡ Some value → kind_in name ≡ Some (kind_of value)
@@ -170,7 +171,7 @@ held_is_sound signatures entries files store typed holds =
     let declared = declared_in_files files in
     record {
       keeps = λ name k is. variable_held store declared name k
-          (λ value there. same_kinds value k (sym is ∙ declared_kind signatures entries declared name value (files_fit signatures entries files typed.fits) there))
+          (λ value there. same_kinds value k (sym is ∙ declared_kind signatures entries declared name value (declared_fit signatures entries files (trees_fit signatures entries 0 files typed.fits)) there))
           entries is (front (HasOwn store) (typed_pairs declared entries) (counts_of files) holds);
       counts = file_counts store files (behind (HasOwn store) (typed_pairs declared entries) (counts_of files) holds);
     }

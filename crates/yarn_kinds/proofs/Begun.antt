@@ -1,5 +1,5 @@
 -- The store with which a run begins holds the variables.
-use Rattle.std.proofs.Common.{◌≡◌, ℕ, pos, List, [], ◌∷◌, ◌++◌, Bool, true, false, if◌then◌else◌, Option, Some, None, All, true≢false, refl, sym, ap, ◌∙◌}
+use Rattle.std.proofs.Common.{◌≡◌, ℕ, pos, List, [], ◌∷◌, ◌++◌, Bool, true, false, if◌then◌else◌, Option, Some, None, All, true≢false, refl, sym, ap, ◌∙◌, map}
 use Rattle.std.specs.Prelude.{⊤}
 use Rattle.std.specs.Option.{option_map}
 use Rattle.std.proofs.lemmas.List.Elements.{All-nil, All-cons, All-head, All-tail, All-append}
@@ -8,17 +8,19 @@ use Rattle.yarn_value.specs.declared.value.Value.TheVariants.{Number}
 use Rattle.yarn_value.specs.declared.value.Kind.{Kind}
 use Rattle.yarn_value.specs.declared.value.Kind.TheVariants as kind
 use Rattle.yarn_value.specs.Values.{kind_of}
-use Rattle.yarn_value.specs.Rows.{same_kind}
-use Rattle.yarn_tree.specs.Trees.{NodeTree, FileTree}
+use Rattle.yarn_tree.specs.Trees.{NodeTree, FileTree, grown}
+use Rattle.yarn_tree.specs.Laws.{ReadExactly}
 use Rattle.yarn_tree.specs.Checks.{is_reserved_name}
 use Rattle.yarn_value.specs.Pairs.{Pair, same_name, value_under, Pairs, with_missing_one, with_missing}
 use Rattle.yarn_types.specs.declared.typed.TypedName.{TypedName}
-use Rattle.yarn_types.proofs.KindLemmas.{kind_same}
 use Rattle.yarn_value.specs.Visits.{count_name}
-use Rattle.yarn_meaning.specs.Variables.{first_value, typed_pairs, counts_in, counts_of, declared_in_files, variables_of, is_other_kind, first_other}
-use Rattle.yarn_code.specs.Kinds.{HasKind}
-use Rattle.yarn_kinds.specs.Kept.{AreApart, BegunHolds}
-use Rattle.yarn_kinds.proofs.Begins.{HasOwn}
+use Rattle.yarn_meaning.specs.Variables.{first_value, typed_pairs, counts_in, counts_of, declared_in_files, variables_of, first_store}
+use Rattle.yarn_code.specs.Kinds.{HasKind, Holds, KeepsKinds}
+use Rattle.yarn_kinds.specs.Typed.{IsTyped}
+use Rattle.yarn_kinds.specs.Kept.{beginning, titles_of, BegunHolds, AcceptedIsSound}
+use Rattle.yarn_kinds.proofs.Typed.{AreApart, accepted_typed}
+use Rattle.yarn_kinds.proofs.Runs.{runs_keep}
+use Rattle.yarn_kinds.proofs.Begins.{HasOwn, held_is_sound}
 use Rattle.yarn_kinds.proofs.Stores.{names_same, same_names, count_reserved}
 
 -- ---- a pair behind a store
@@ -95,23 +97,6 @@ all_put (p ∷ ps) store alike agree =
     (all_stay ps store1 p.0 (kind_of p.1) (one_put store p found refl (All-head (Agrees store) p ps agree)))
     (all_put ps store1 alike.1 (λ i d inside. still_agrees store p _ found refl (alike.0 i d inside) (All-tail (Agrees store) p ps agree i d inside)))
 
--- ---- none of the pairs is of another kind
-
-other_agrees : (value x : Value) → is_other_kind value (Some x) ≡ false → kind_of x ≡ kind_of value
-other_agrees value x h = by_test (same_kind (kind_of x) (kind_of value)) refl h
-  where
-    by_test : (b : Bool) → same_kind (kind_of x) (kind_of value) ≡ b → (if b then false else true) ≡ false → kind_of x ≡ kind_of value
-    by_test true is k = kind_same (kind_of x) (kind_of value) is
-    by_test false is k = absurd cc
-
-all_agree : (store ps : Pairs) → first_other store ps ≡ None → All (Agrees store) ps
-all_agree store [] none = All-nil (Agrees store)
-all_agree store (p ∷ ps) none = by_test (all_agree store ps) (is_other_kind p.1 (value_under store p.0)) refl none
-  where
-    by_test : (first_other store ps ≡ None → All (Agrees store) ps) → (b : Bool) → is_other_kind p.1 (value_under store p.0) ≡ b → (if b then Some p.0 else first_other store ps) ≡ None → All (Agrees store) (p ∷ ps)
-    by_test later true is h = absurd cc
-    by_test later false is h = All-cons (Agrees store) p ps (λ x there. other_agrees p.1 x (ap (is_other_kind p.1) (sym there) ∙ is)) (later h)
-
 -- ---- the variables of a project
 
 abbrev AllNumbers : Pairs → Type 0
@@ -162,8 +147,22 @@ file_reserved : (fs : List FileTree) → AllReserved (counts_of fs)
 file_reserved [] = All-nil (λ (p : Pair). is_reserved_name p.0 ≡ true)
 file_reserved (f ∷ fs) = All-append (λ (p : Pair). is_reserved_name p.0 ≡ true) (counts_in f.nodes) (counts_of fs) (node_reserved f.nodes) (file_reserved fs)
 
-pub begun_holds : BegunHolds
-begun_holds entries files pairs apart unreserved none =
+-- a store in which each variable that is there has its kind holds all of them when a run begins
+pub begun_held : (entries : List TypedName) (files : List FileTree) (pairs : Pairs) → AreApart entries → All (λ entry. is_reserved_name entry.name ≡ false) entries →
+    KeepsKinds (variables_of entries files) pairs → Holds (variables_of entries files) (first_store pairs entries files)
+begun_held entries files pairs apart unreserved kept =
     all_put (variables_of entries files) pairs
-    (variables_alike (declared_in_files files) entries (counts_of files) apart unreserved (file_numbers files) (file_reserved files))
-    (all_agree pairs (variables_of entries files) none)
+    (variables_alike (declared_in_files files) entries (counts_of files) apart unreserved (file_numbers files) (file_reserved files)) kept
+
+pub begun_holds : ReadExactly → BegunHolds
+begun_holds exactly signatures sources lines entries pairs accepted kept =
+    let known = accepted_typed exactly signatures sources lines entries accepted in
+    begun_held entries (map grown lines) pairs known.apart known.unreserved kept
+
+-- each moment of a run of an accepted project is sound
+pub accepted_is_sound : ReadExactly → AcceptedIsSound
+accepted_is_sound exactly signatures sources lines entries start st k accepted kept =
+    let known = accepted_typed exactly signatures sources lines entries accepted in
+    let typed : IsTyped signatures entries (map grown lines) = record { fits = known.lines; unreserved = known.unreserved } in
+    runs_keep signatures entries (titles_of (map grown lines)) (map grown lines) start (beginning entries (map grown lines) st) k typed
+    (held_is_sound signatures entries (map grown lines) (first_store st.store entries (map grown lines)) typed (begun_held entries (map grown lines) st.store known.apart known.unreserved kept))

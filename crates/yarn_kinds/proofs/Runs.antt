@@ -8,7 +8,7 @@ use Rattle.yarn_value.specs.declared.fault.RunFault.{RunFault}
 use Rattle.yarn_value.specs.declared.fault.RunFault.TheVariants as run
 use Rattle.yarn_value.specs.declared.signature.Signature.{Signature}
 use Rattle.yarn_value.specs.Operations.{number}
-use Rattle.yarn_tree.specs.Trees.{NodeTree, FileTree, grown}
+use Rattle.yarn_tree.specs.Trees.{NodeTree, FileTree}
 use Rattle.yarn_tree.specs.Checks.{is_reserved_name}
 use Rattle.yarn_types.specs.declared.typed.TypedName.{TypedName}
 use Rattle.yarn_code.specs.declared.event.Event.TheVariants as event
@@ -18,10 +18,10 @@ use Rattle.yarn_value.specs.Visits.{count_name, visits}
 use Rattle.yarn_meaning.specs.Does.{Exit, Through, Jumps, Stops, Halted, Waiting, does_all}
 use Rattle.yarn_meaning.specs.First.{Placed, Piece, Going, nodes_at, nodes_from, first_titled, find, at_node, faults_at, halts_at, counted, leaves, enters, entered, exits_of, left, in_node, scope_of, starting, from}
 use Rattle.yarn_kinds.proofs.Fitting.{FitsAll}
-use Rattle.yarn_kinds.specs.Kept.{titles_of, RunsKeep, AcceptedIsSound}
+use Rattle.yarn_kinds.specs.Kept.{RunsKeep}
 use Rattle.yarn_kinds.proofs.Operations.{IsResult, number_gives}
 use Rattle.yarn_kinds.proofs.Stores.{count_sound}
-use Rattle.yarn_kinds.proofs.Begins.{held_is_sound}
+use Rattle.yarn_kinds.proofs.Typed.{files_fit}
 use Rattle.yarn_kinds.proofs.Statements.{Sound_at, Shown, one_shown, all_keep}
 
 module _ (entries : List TypedName) (titles : List (List ℕ)) where
@@ -136,10 +136,5 @@ module _ (entries : List TypedName) (titles : List (List ℕ)) where
 pub runs_keep : RunsKeep
 runs_keep signatures entries titles files start st zero typed sound = record { shown = All-nil (λ (m : Moment). Sound_at entries titles m.state); left = sound }
 runs_keep signatures entries titles files start st (suc k) typed sound =
-    let kept = first_keeps entries titles typed.unreserved signatures files (all_fit entries titles typed.unreserved signatures 0 files typed.fits) k start st sound k in
+    let kept = first_keeps entries titles typed.unreserved signatures files (all_fit entries titles typed.unreserved signatures 0 files (files_fit signatures entries 0 files typed.fits)) k start st sound k in
     record { shown = kept.shown; left = kept.left }
-
-pub accepted_is_sound : AcceptedIsSound
-accepted_is_sound signatures sources lines entries start st k accepted holds =
-    runs_keep signatures entries (titles_of (map grown lines)) (map grown lines) start st k accepted.typed
-    (held_is_sound signatures entries (map grown lines) st.store accepted.typed holds)

@@ -24,6 +24,7 @@ use Rattle.yarn_meaning.specs.Filled.{filled}
 use Rattle.yarn_meaning.specs.Does.{Exit, Through, Jumps, Stops, Halted, Waiting, Done, done, prefixed, showing, goes_on, is_true, title_in, picked, waits, group_line, choice_of, with_choices, set_value, says, does_simple, does, does_all, does_option, does_clauses, does_last}
 use Rattle.yarn_code.specs.Answers.{chooses, any_open, less_one, at_answer}
 use Rattle.yarn_kinds.specs.Typed.{variables_in}
+use Rattle.yarn_kinds.proofs.Typed.{stmts_fit}
 use Rattle.yarn_kinds.proofs.Fitting.{FitsSimple, FitsAll, FitsOne, FitsOptions, FitsClauses, FitsLast}
 use Rattle.yarn_kinds.specs.Kept.{IsSound, StatementsKeep}
 use Rattle.yarn_kinds.proofs.Evaluations.{Within, within_any}
@@ -154,5 +155,5 @@ module _ (entries : List TypedName) (titles : List (List ℕ)) where
 
 pub statements_keep : StatementsKeep
 statements_keep scope entries titles b st unreserved fits sound =
-    let kept = all_keep entries titles scope unreserved b st fits sound in
+    let kept = all_keep entries titles scope unreserved b st (stmts_fit scope.functions entries 0 b fits) sound in
     record { shown = kept.shown; left = kept.left }

@@ -1,6 +1,16 @@
-ghost use Rattle.yarn_kinds.specs.Typed.{Kinds};
+//! The laws of this crate, each proved as the contract of a function that does nothing, or that cites the law of items.
+ghost use Rattle.yarn_kinds.specs.Typed.{Kinds, AcceptedIsTyped};
 ghost use Rattle.yarn_kinds.specs.Kept.{Conditions, Titles, StatementsKeep, RunsKeep, HeldIsSound, AcceptedIsSound, BegunHolds};
 ghost use Rattle.yarn_kinds.specs.Strict.{MakesNothingUp, SetsMakeNothingUp};
+
+use yarn_items::items_are_found;
+
+/// The typing of an accepted project fits its lines, and no variable of it is a count.
+pub fn accepted_projects_are_typed()
+    ensures { AcceptedIsTyped }
+{
+    items_are_found();
+}
 
 /// The value of an expression is of the kind that the typing gives it.
 pub fn values_have_their_kinds()
@@ -40,7 +50,9 @@ pub fn runs_keep_kinds()
 /// The store with which a run begins holds the variables of the project.
 pub fn begun_stores_hold()
     ensures { BegunHolds }
-{}
+{
+    items_are_found();
+}
 
 /// A store that holds the variables of a project has their kinds.
 pub fn held_stores_are_sound()
@@ -50,4 +62,6 @@ pub fn held_stores_are_sound()
 /// A run of an accepted project has them at each moment.
 pub fn accepted_runs_are_sound()
     ensures { AcceptedIsSound }
-{}
+{
+    items_are_found();
+}
