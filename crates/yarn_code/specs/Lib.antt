@@ -8,6 +8,7 @@ pub mod Kinds
 pub mod MachineState
 pub mod Machine
 pub mod Runs
+pub mod Listed
 pub mod Next
 pub mod Scan
 pub mod Taking

@@ -3,6 +3,7 @@
 
 mod answer;
 mod event;
+mod laws;
 mod next;
 mod program;
 mod scan;
@@ -11,4 +12,5 @@ mod tests;
 
 pub use answer::take_answer;
 pub use event::{Choice, Event};
+pub use laws::instructions_do_as_listed;
 pub use program::{CodeNode, Coded, Instr, Program, Variable};
