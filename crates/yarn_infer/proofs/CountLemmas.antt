@@ -1,5 +1,5 @@
 -- The one typing among all lists of kinds, and what stands against it.
-use Rattle.std.proofs.Common.{◌≡◌, ℕ, zero, suc, ◌+◌, ◌<◌, ◌≤◌, ◌⊎◌, inl, inr, List, [], ◌∷◌, ◌++◌, length, map, take, slice_get, Bool, true, false, not, cond, ◌||◌, if◌then◌else◌, Some, None, Result, Ok, Err, IfOk, IfErr, refl, sym, ap, ◌∙◌, subst, append_assoc, arith}
+use Rattle.std.proofs.Common.{◌≡◌, ℕ, zero, suc, ◌+◌, ◌<◌, ◌≤◌, ◌⊎◌, inl, inr, List, [], ◌∷◌, ◌++◌, length, map, take, slice_get, Bool, true, false, not, cond, ◌||◌, if◌then◌else◌, Option, Some, None, Result, Ok, Err, IfOk, IfErr, refl, sym, ap, ◌∙◌, subst, append_assoc, arith}
 use mathlib.Core.Path.{ap₂}
 use Rattle.std.specs.List.{filter, list_any}
 use Rattle.std.proofs.lemmas.Bool.{and_parts, or_parts, false≢true, true≢false}
@@ -399,7 +399,7 @@ first_in : (lists : List (List Kind)) → is_none lists ≡ false → In (first_
 first_in [] e = absurd (true≢false e)
 first_in (l ∷ lists) e = inl refl
 
-numbers : List Appearance → List Kind
+abbrev numbers : List Appearance → List Kind
 numbers [] = []
 numbers (v ∷ variables) = Number ∷ numbers variables
 
@@ -416,14 +416,15 @@ module _ (signatures : List Signature) (variables : List Appearance) where
   some_listed : (before units : List UnitAt) → is_none (typings signatures variables before) ≡ false → untyped_at signatures variables before units ≡ None →
       is_none (typings signatures variables (before ++ units)) ≡ false
   some_listed before [] some none = subst (λ us. is_none (typings signatures variables us) ≡ false) (sym (append-nil before)) some
-  some_listed before (u ∷ units) some none = by_test (is_none (typings signatures variables (before ++ u ∷ []))) refl
+  some_listed before (u ∷ units) some none = by_test (λ one rest. some_listed (before ++ u ∷ []) units one rest) (is_none (typings signatures variables (before ++ u ∷ []))) refl
     where
-      by_test : (is : Bool) → is_none (typings signatures variables (before ++ u ∷ [])) ≡ is → is_none (typings signatures variables (before ++ u ∷ units)) ≡ false
-      by_test true e =
+      by_test : (is_none (typings signatures variables (before ++ u ∷ [])) ≡ false → untyped_at signatures variables (before ++ u ∷ []) units ≡ None → is_none (typings signatures variables ((before ++ u ∷ []) ++ units)) ≡ false) →
+          (is : Bool) → is_none (typings signatures variables (before ++ u ∷ [])) ≡ is → is_none (typings signatures variables (before ++ u ∷ units)) ≡ false
+      by_test later true e =
           absurd (none-some u.place (sym none ∙ pick_then (is_none (typings signatures variables (before ++ u ∷ []))) (Some u.place) (untyped_at signatures variables (before ++ u ∷ []) units) e))
-      by_test false e =
+      by_test later false e =
           subst (λ us. is_none (typings signatures variables us) ≡ false) (append_assoc before (u ∷ []) units)
-          (some_listed (before ++ u ∷ []) units e
+          (later e
           (sym (pick_else (is_none (typings signatures variables (before ++ u ∷ []))) (Some u.place) (untyped_at signatures variables (before ++ u ∷ []) units) e) ∙ none))
 
 module _ (signatures : List Signature) (units : List UnitAt) (entries : List TypedName) where
