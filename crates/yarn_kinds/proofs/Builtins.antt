@@ -135,10 +135,5 @@ visited_gives name scope store args t h = let taken = text_taken args h in rw ta
 count_gives : (name : List ℕ) → GivesKind (on_visits name kind.Number)
 count_gives name scope store args t h = let taken = text_taken args h in rw taken.1 refl
 
--- the typing and the meaning look in the same table
-pub same_row : (name : List ℕ) → builtin_named name ≡ builtin_named name
-unfolding builtin_named builtin_named
-same_row name = refl
-
 pub builtin_gives : (name : List ℕ) (row : Row) → builtin_named name ≡ Some row → GivesKind row
 builtin_gives = of_builtin GivesKind applied_gives visited_gives count_gives

@@ -1,5 +1,5 @@
 -- The names of a project's variables: none is reserved, and none comes again.
-use Rattle.std.proofs.Common.{◌≡◌, ℕ, suc, List, [], ◌∷◌, ◌++◌, map, nat_eq, Bool, true, false, if◌then◌else◌, Option, Some, None, is_some, refl, sym, ap, ◌∙◌, subst, All}
+use Rattle.std.proofs.Common.{◌≡◌, ℕ, suc, ◌+◌, List, [], ◌∷◌, ◌++◌, map, nat_eq, Bool, true, false, if◌then◌else◌, Option, Some, None, is_some, refl, sym, ap, ◌∙◌, subst, All}
 use Rattle.std.specs.Cmp.Lexicographic.{pointwise}
 use Rattle.std.specs.List.{flat_map}
 use Rattle.std.specs.Option.{option_map}
@@ -66,7 +66,7 @@ abbrev Free : List ℕ → Type 0
 Free name = is_reserved_name name ≡ false
 
 abbrev FreeUse : Use → Type 0
-FreeUse use = is_reserved use ≡ false
+FreeUse u = is_reserved u ≡ false
 
 abbrev AreFree : Expr → Type 0
 AreFree e = Each FreeUse (uses_of e) → Each Free (names_in e)
@@ -244,7 +244,7 @@ IsOther name a = name ≡ a.name → ⊥
 
 abbrev pub NamesDiffer : List Appearance → Type 0
 NamesDiffer [] = Unit {0}
-NamesDiffer (a ∷ as) = Each (IsOther a.name) as × NamesDiffer as
+NamesDiffer (a ∷ more) = Each (IsOther a.name) more × NamesDiffer more
 
 map_none : (o : Option ℕ) → option_map suc o ≡ None → o ≡ None
 map_none None e = refl
@@ -252,11 +252,12 @@ map_none (Some n) e = absurd cc
 
 not_there : (known : List Appearance) (name : List ℕ) → place_of known name ≡ None → Each (λ a. a.name ≡ name → ⊥) known
 not_there [] name is = tt
-not_there (a ∷ known) name is = by_test (pointwise nat_eq a.name name) refl is
+not_there (a ∷ known) name is = by_test (not_there known name) (pointwise nat_eq a.name name) refl is
   where
-    by_test : (b : Bool) → pointwise nat_eq a.name name ≡ b → (if b then Some 0 else option_map suc (place_of known name)) ≡ None → Each (λ a. a.name ≡ name → ⊥) (a ∷ known)
-    by_test true same e = absurd cc
-    by_test false same e = (λ is. false≢true (sym same ∙ (bytes_eq-Decides a.name name).1 is), not_there known name (map_none (place_of known name) e))
+    by_test : (place_of known name ≡ None → Each (λ a. a.name ≡ name → ⊥) known) → (b : Bool) → pointwise nat_eq a.name name ≡ b →
+        (if b then Some 0 else option_map suc (place_of known name)) ≡ None → Each (λ a. a.name ≡ name → ⊥) (a ∷ known)
+    by_test later true same e = absurd cc
+    by_test later false same e = (λ is. false≢true (sym same ∙ (bytes_eq-Decides a.name name).1 is), later (map_none (place_of known name) e))
 
 differ_behind : (known : List Appearance) (one : Appearance) → NamesDiffer known → Each (λ a. a.name ≡ one.name → ⊥) known → NamesDiffer (known ++ one ∷ [])
 differ_behind [] one h g = (tt, tt)

@@ -33,7 +33,7 @@ use Rattle.yarn_kinds.proofs.Parts.{OfEach, of_all}
 use Rattle.yarn_kinds.proofs.Evaluations.{Within, within_any}
 use Rattle.yarn_kinds.proofs.Operations.{IsMeant, operation_gives}
 use Rattle.yarn_kinds.proofs.Operators.{binary_gives, unary_gives}
-use Rattle.yarn_kinds.proofs.Builtins.{of_builtin, same_row, text_taken}
+use Rattle.yarn_kinds.proofs.Builtins.{of_builtin, text_taken}
 use Rattle.yarn_kinds.proofs.Asked.{in_kind, set_kind}
 use Rattle.yarn_kinds.proofs.Values.{Evaluation, Sound, AreOf, in_only, sound, sound_of, variable_of_kind, each_step, row_of_args}
 
@@ -159,7 +159,7 @@ module _ (scope : Scope) (store : Pairs) (name : List ℕ) (kinds : List (Option
   call_by None None is = tt
 
   call_exact : Exact (fits.called (builtin_named name) (signature_named scope.functions name) kinds) (answers (builtin_named name)) (strict_answers (builtin_named name))
-  call_exact = rw (same_row name) (call_by (builtin_named name) (signature_named scope.functions name) refl)
+  call_exact = call_by (builtin_named name) (signature_named scope.functions name) refl
 
 -- ---- expressions
 

@@ -27,7 +27,7 @@ use Rattle.yarn_kinds.specs.Typed.{Keeps, Kinds}
 use Rattle.yarn_kinds.proofs.Parts.{OfEach, of_all}
 use Rattle.yarn_kinds.proofs.Evaluations.{Within, IsOf, then_within, within_any}
 use Rattle.yarn_kinds.proofs.Operators.{binary_gives, unary_gives}
-use Rattle.yarn_kinds.proofs.Builtins.{of_meant, same_row, builtin_gives}
+use Rattle.yarn_kinds.proofs.Builtins.{of_meant, builtin_gives}
 use Rattle.yarn_kinds.proofs.Calls.{reply_gives}
 
 -- ---- evaluations, each with the kind that it may have
@@ -137,7 +137,7 @@ module _ (scope : Scope) (store : Pairs) (name : List ℕ) (kinds : List (Option
   call_by None None is found = tt
 
   pub call_sound : Sound (fits.called (builtin_named name) (signature_named scope.functions name) kinds) (answers (builtin_named name))
-  call_sound = rw (same_row name) (call_by (builtin_named name) (signature_named scope.functions name) refl refl)
+  call_sound = call_by (builtin_named name) (signature_named scope.functions name) refl refl
 
 -- ---- expressions
 

@@ -1,4 +1,4 @@
--- Evaluation that gives nothing where the meaning would make a value up, as none is there of the kind that is needed.
+-- Evaluation that gives nothing where the meaning would make a value up, as none is there of the kind that is needed (docs/meaning.md, Kinds).
 use Rattle.std.specs.Prelude.{◌≡◌, ℕ, List, [], ◌∷◌, Option, Some, None, Result, Ok, Err, true}
 use Rattle.std.specs.Option.{option_map}
 use Rattle.yarn_value.specs.declared.value.Value.{Value}
@@ -9,6 +9,7 @@ use Rattle.yarn_value.specs.declared.fault.RunFault.{RunFault}
 use Rattle.yarn_value.specs.declared.operation.Op.{Op}
 use Rattle.yarn_value.specs.Builtins.{Row, builtin_named}
 use Rattle.yarn_value.specs.Operations.{operation}
+use Rattle.yarn_value.specs.Calls.{row_result}
 use Rattle.yarn_expr.specs.declared.tree.BinaryOp.{BinaryOp}
 use Rattle.yarn_expr.specs.declared.tree.Expr.{Expr}
 use Rattle.yarn_expr.specs.declared.tree.Expr.TheOpen.{Expr-F}
@@ -39,15 +40,9 @@ strict_outcome (Some (Ok value)) t = Some (Gives value t)
 strict_outcome (Some (Err fault)) t = Some (Halts (Faults fault) t)
 strict_outcome None t = None
 
--- `visited` and `visited_count` have the title of a node
-abbrev pub strict_known : Scope → Pairs → Kind → List Value → Option Value
-strict_known scope store kind.Truth (Str title ∷ []) = Some (of_visits kind.Truth (visits store title))
-strict_known scope store kind.Number (Str title ∷ []) = Some (of_visits kind.Number (visits store title))
-strict_known scope store _ _ = None
-
+-- a builtin has a result
 abbrev pub strict_builtin : Scope → Pairs → Option Op → Kind → List Value → Tape → Option (Evaluated Value)
-strict_builtin scope store None result args t = strict_value (strict_known scope store result args) t
-strict_builtin scope store (Some op) result args t = strict_outcome (operation op args) t
+strict_builtin scope store op result args t = strict_outcome (row_result scope store op result args) t
 
 abbrev pub strict_called : Scope → Pairs → Option Row → List ℕ → List Value → Tape → Option (Evaluated Value)
 strict_called scope store None name args t = Some (replied scope.functions name args t)
