@@ -125,9 +125,11 @@ free_simple file (simple.Call head e) h = (free_in e h, tt)
 
 free_offer : (file line : ℕ) (es : List Expr) (o : Option Expr) → Each FreeUse (uses_of_all es ++ uses_of_asked o) → Each FreeUnit (offer_units file line es o)
 free_offer file line es None h = free_values file line es (each_front FreeUse (uses_of_all es) [] h)
-free_offer file line es (Some e) h =
-    (each_append Free (names_in_all es) (names_in e) (free_in_all es (each_front FreeUse (uses_of_all es) (uses_of e) h))
-    (free_in e (each_back FreeUse (uses_of_all es) (uses_of e) h)), tt)
+free_offer file line es (Some e) h = (
+  each_append Free (names_in_all es) (names_in e) (free_in_all es (each_front FreeUse (uses_of_all es) (uses_of e) h))
+      (free_in e (each_back FreeUse (uses_of_all es) (uses_of e) h)),
+  tt,
+)
 
 -- ---- blocks
 
