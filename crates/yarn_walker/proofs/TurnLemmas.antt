@@ -112,11 +112,11 @@ enters_same files n m line title is st j =
     ∙ node_agrees files (placed m) st j
 
 fails_same : (files : List FileTree) (n : NodeAt) (f : FaultAt) (line : ℕ) (title : List ℕ) → None ≡ find title files →
-    Faults (fault_of f) ≡ faults_at (placed n) line (run_fault.UnknownNode title) → (st : State) (k j : ℕ) →
-    enters files (from [] files k) (placed n) line title (piece_of (placed n)) st j ≡ arrives files k (Fails f) st j
-fails_same files n f line title is one st k j =
+    Faults (fault_of f) ≡ faults_at (placed n) line (run_fault.UnknownNode title) → (st : State) (j : ℕ) →
+    enters files (from [] files (suc j)) (placed n) line title (piece_of (placed n)) st j ≡ arrives files (suc j) (Fails f) st j
+fails_same files n f line title is one st j =
     ap (λ o. at_node o (stands (faults_at (placed n) line (run_fault.UnknownNode title)) st)
-    (λ to. in_node (from [] files k) (entered (piece_of (placed n)) to) st) j) (sym is)
+    (λ to. in_node (from [] files (suc j)) (entered (piece_of (placed n)) to) st) j) (sym is)
     ∙ ap (λ x. stands x st j) (sym one)
 
 -- a jump to the title of a node leaves for that node
@@ -124,7 +124,7 @@ pub jumping_enters : (files : List FileTree) (n m : NodeAt) (line : ℕ) (title 
     (answers : List ℕ) (k : ℕ) → jumping files n line title store k answers k ≡ leaving files n line (Enters m) store k answers k
 jumping_enters files n m line title store is answers k =
     leaves_same (placed n) line (at store answers) _ _ k
-    (λ st j e. subst (λ fuel. enters files (from [] files fuel) (placed n) line title (piece_of (placed n)) st j ≡ arrives files fuel (Enters m) st j) (sym e)
+    (λ st j e. subst (λ i. enters files (from [] files i) (placed n) line title (piece_of (placed n)) st j ≡ arrives files i (Enters m) st j) (sym e)
     (enters_same files n m line title is st j))
 
 -- a jump to no node's title leaves for a fault
@@ -132,7 +132,9 @@ pub jumping_fails : (files : List FileTree) (n : NodeAt) (f : FaultAt) (line : �
     Faults (fault_of f) ≡ faults_at (placed n) line (run_fault.UnknownNode title) →
     (answers : List ℕ) (k : ℕ) → jumping files n line title store k answers k ≡ leaving files n line (Fails f) store k answers k
 jumping_fails files n f line title store is one answers k =
-    leaves_same (placed n) line (at store answers) _ _ k (λ st j e. fails_same files n f line title is one st k j)
+    leaves_same (placed n) line (at store answers) _ _ k
+    (λ st j e. subst (λ i. enters files (from [] files i) (placed n) line title (piece_of (placed n)) st j ≡ arrives files i (Fails f) st j) (sym e)
+    (fails_same files n f line title is one st j))
 
 -- ---- how a group is shown
 
