@@ -11,6 +11,7 @@ use Rattle.yarn_expr.specs.declared.tree.Expr.TheOpen.{Expr-F}
 use Rattle.yarn_expr.specs.declared.tree.Expr.TheFolds.{fold-roll-Expr, ind-Expr}
 use Rattle.yarn_expr.proofs.Levels.{most_of, level_step, levels}
 use Rattle.yarn_types.specs.Names.{Appearance}
+use Rattle.yarn_value.specs.Builtins.{builtin_named}
 use Rattle.yarn_value.specs.Signatures.{signature_named}
 use Rattle.yarn_types.specs.KindSets.{only}
 use Rattle.yarn_types.specs.Fits as fits
