@@ -20,7 +20,6 @@ use Rattle.yarn_expr.specs.declared.tree.BinaryOp.TheVariants.{Mul, Div, Rem, Ad
 use Rattle.yarn_value.specs.Signatures.{row_arity, declared_arity, builtin_or, arity_of, signature_named}
 use Rattle.yarn_types.proofs.KindLemmas.{kind_same, holds_only}
 use Rattle.yarn_types.specs.KindSets.{holds, only, all_kinds}
-use Rattle.yarn_types.specs.Fits as fits
 use Rattle.yarn_types.specs.Fits.{joined, is_in, unary_kind, takes_each, kinds_of, row_takes, called}
 use Rattle.yarn_code.specs.declared.program.Program.{Program}
 use Rattle.yarn_compile.specs.Code.{unary_name, binary_name}
