@@ -13,3 +13,5 @@ pub mod Places
 pub mod Calls
 pub mod Takes
 pub mod Acts
+pub mod Steps
+pub mod Stuck

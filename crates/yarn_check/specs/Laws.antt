@@ -57,7 +57,7 @@ abbrev pub IsStep : Program → Stepped → Type 0
 IsStep p (Quiet w) = IsGood p w
 IsStep p (Shows shown w) = IsGood p w
 IsStep p (Finishes w) = IsGood p w
-IsStep p (StandsAt stand w) = TapeFits w.state.tape
+IsStep p (StandsAt stand w) = IsGood p w
 IsStep p Stuck = ⊥
 
 abbrev pub Steps : Type 0
