@@ -15,3 +15,6 @@ pub mod Takes
 pub mod Acts
 pub mod Steps
 pub mod Stuck
+pub mod Comes
+pub mod Outcomes
+pub mod Rebuilding
