@@ -1,5 +1,5 @@
 -- One instruction on a stack that has its shape.
-use Rattle.std.proofs.Common.{◌≡◌, ◌<◌, ◌≤◌, ℕ, ◌+◌, List, [], ◌∷◌, ◌++◌, length, map, Bool, true, false, if◌then◌else◌, All, Option, Some, None, Ok, Err, is_some, IsTrue, refl, sym, ap, ◌∙◌, subst, arith, slice_get}
+use Rattle.std.proofs.Common.{◌≡◌, ◌<◌, ℕ, ◌+◌, List, [], ◌∷◌, ◌++◌, length, map, Bool, true, false, if◌then◌else◌, All, Option, Some, None, Ok, Err, is_some, IsTrue, refl, sym, ap, ◌∙◌, subst, arith, slice_get}
 use Rattle.std.proofs.lemmas.List.Elements.{All-nil, All-cons, All-head, All-tail, All-contains}
 use Rattle.yarn_value.specs.declared.value.Value as V
 use Rattle.yarn_value.specs.declared.value.Value.TheVariants as value
@@ -10,7 +10,6 @@ use Rattle.yarn_value.specs.Builtins.{Row, builtin_named}
 use Rattle.yarn_value.specs.Rows.{takes}
 use Rattle.yarn_value.specs.Values.{kind_of}
 use Rattle.yarn_value.specs.Operations.{Outcome}
-use Rattle.yarn_value.specs.Pairs.{value_under}
 use Rattle.yarn_value.specs.Signatures.{signature_named}
 use Rattle.yarn_value.specs.Calls.{builtin_result, kind_of_call}
 use Rattle.yarn_value.specs.Templates.{Part, template_of, expanded}
@@ -21,7 +20,7 @@ use Rattle.yarn_code.specs.declared.program.CodeNode.{CodeNode}
 use Rattle.yarn_code.specs.declared.program.Program.{Program}
 use Rattle.yarn_code.specs.Moments.{State, with_value}
 use Rattle.yarn_code.specs.Parts.{coded, code_titled}
-use Rattle.yarn_code.specs.Fields.{IsFitting, HasOperands}
+use Rattle.yarn_code.specs.Fields.{HasOperands}
 use Rattle.yarn_code.specs.MachineState as m
 use Rattle.yarn_code.specs.MachineState.{Stack, Offer, Line, Command, To, Ends, Rests, Doing, Runs, Enters, Asks, Over, Here, MachineState, machine, runs_at, rests_at}
 use Rattle.yarn_code.specs.Machine.{Stepped, Quiet, Shows, Finishes, StandsAt, Stuck, take_values, when_some, offer, scope_at, pushes, calls, act}

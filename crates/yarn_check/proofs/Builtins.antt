@@ -1,5 +1,5 @@
 -- What a builtin gives on values of its row's kinds that fit.
-use Rattle.std.proofs.Common.{◌≡◌, ℕ, ℤ, pos, int_lt, List, [], ◌∷◌, map, nat_eq, codes, Bool, true, false, if◌then◌else◌, Ok, Option, Some, None, refl, sym, subst}
+use Rattle.std.proofs.Common.{◌≡◌, ℕ, pos, int_lt, List, [], ◌∷◌, map, nat_eq, codes, Bool, true, false, if◌then◌else◌, Option, Some, None, refl, sym, subst}
 use Rattle.std.specs.Cmp.Lexicographic.{pointwise}
 use Rattle.yarn_value.specs.declared.value.Value.{Value}
 use Rattle.yarn_value.specs.declared.value.Value.TheVariants.{Number, Str, Truth}

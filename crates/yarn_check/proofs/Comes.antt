@@ -15,13 +15,13 @@ use Rattle.yarn_code.specs.Answers.{chooses, any_open, less_one, at_answer}
 use Rattle.yarn_code.specs.Moments.{State, with_tape, with_answers}
 use Rattle.yarn_code.specs.Moments as moments
 use Rattle.yarn_code.specs.Parts.{code_titled, line_at}
-use Rattle.yarn_code.specs.MachineState.{Stack, Offer, choices, Leave, Stop, To, Rest, Line, Options, Command, Starts, Ends, Cause, Ended, Fault, Doing, Runs, Enters, Rests, Asks, Over, Value, Destination, Here, moved_to, MachineState, machine, rests_at, enters, with_state}
-use Rattle.yarn_code.specs.Machine.{Stepped, Quiet, Shows, Finishes, StandsAt, Stuck, when_some, when_empty, when_first, label_at, breaks, in_node, enters_to, leaves, closed, answered, takes_reply, asks, ends, step, next}
+use Rattle.yarn_code.specs.MachineState.{Stack, Offer, choices, Leave, Stop, To, Line, Options, Command, Starts, Ends, Cause, Ended, Fault, Doing, Runs, Enters, Rests, Asks, Over, Value, Destination, Here, moved_to, MachineState, machine, rests_at, enters, with_state}
+use Rattle.yarn_code.specs.Machine.{Stepped, Quiet, Shows, Finishes, StandsAt, Stuck, when_some, when_empty, when_first, label_at, breaks, in_node, enters_to, leaves, closed, answered, takes_reply, asks, ends, step}
 use Rattle.yarn_check.specs.Shapes.{shape}
 use Rattle.yarn_check.specs.Shaped.{IsShaped, IsPlaced, IsStored}
 use Rattle.yarn_check.specs.Laws.{IsRunnable, TapeFits, IsGood, IsStep, OrAsks, ComesBy, Comes, ComesSoon}
 use Rattle.yarn_check.proofs.Places.{coded_at}
-use Rattle.yarn_check.proofs.Acts.{IsOnward, Goes, IsAct}
+use Rattle.yarn_check.proofs.Acts.{Goes, IsAct}
 use Rattle.yarn_check.proofs.Steps.{entering, acting, run_act, steps}
 
 -- a place that has a shape is in the node

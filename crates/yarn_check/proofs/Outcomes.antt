@@ -6,12 +6,12 @@ use Rattle.yarn_code.specs.declared.program.Program.{Program}
 use Rattle.yarn_code.specs.Moments.{State, Moment, moment}
 use Rattle.yarn_code.specs.Moments as moments
 use Rattle.yarn_code.specs.Parts.{code_titled}
-use Rattle.yarn_code.specs.MachineState.{Stack, Offer, Rest, Starts, Cause, Ended, Fault, Doing, Runs, Enters, Rests, Asks, Over, Here, MachineState, machine, rests_at}
+use Rattle.yarn_code.specs.MachineState.{Stack, Offer, Starts, Doing, Runs, Enters, Rests, Asks, Over, Here, MachineState, machine, rests_at}
 use Rattle.yarn_code.specs.Machine.{Stepped, Quiet, Shows, Finishes, StandsAt, Stuck, when_some, when_empty, in_node, step, next}
 use Rattle.yarn_code.specs.Runs.{Ran, ran, with_first, with_count, ticks, follow, run, Reaches}
 use Rattle.yarn_check.specs.Shaped.{IsPlaced}
 use Rattle.yarn_check.specs.Laws.{IsRunnable, IsGood, IsStep, HaveOutcomes}
-use Rattle.yarn_check.proofs.Acts.{IsOnward, Goes, IsAct}
+use Rattle.yarn_check.proofs.Acts.{Goes, IsAct}
 use Rattle.yarn_check.proofs.Steps.{acting, run_act, steps}
 use Rattle.yarn_check.proofs.Comes.{within, OnQuiet, some_quiet, first_quiet, empty_quiet, IsLanded, Lands, lands, over_quiet}
 
@@ -160,8 +160,8 @@ module _ (p : Program) where
     more_left n here place named = (
       omega arith,
       λ m found. let both : Some n ≡ Some m = sym named ∙ found in
-      let e : n ≡ m = cc in
-      subst (λ j. length j.code + length j.code + 1 ≤ place + place + (length n.code + length n.code + 1)) e (omega arith),
+          let e : n ≡ m = cc in
+          subst (λ j. length j.code + length j.code + 1 ≤ place + place + (length n.code + length n.code + 1)) e (omega arith),
     )
 
     far : (doing : Doing) (w : MachineState) → IsPlaced p doing w → (most : ℕ) × Near most w.here w.place doing

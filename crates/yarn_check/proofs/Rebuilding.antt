@@ -7,12 +7,12 @@ use Rattle.yarn_code.specs.declared.program.CodeNode.{CodeNode}
 use Rattle.yarn_code.specs.declared.program.Program.{Program}
 use Rattle.yarn_code.specs.Moments.{State}
 use Rattle.yarn_code.specs.Parts.{coded}
-use Rattle.yarn_code.specs.MachineState.{Stack, Offer, Stop, To, Rest, Line, Options, Command, Starts, Ends, Doing, Rests, here_in, MachineState, machine}
+use Rattle.yarn_code.specs.MachineState.{Stack, Offer, Stop, To, Rest, Line, Options, Command, Starts, Ends, Rests, here_in, MachineState, machine}
 use Rattle.yarn_check.specs.Shapes as s
 use Rattle.yarn_check.specs.Shapes.{ShapeEntry, Shape, shape, HasShape, Goal, goal, Flow, IsReached, take_kinds, goes_on, flow, IsValidNode}
 use Rattle.yarn_check.specs.Shaped.{HasEntries, HasOffers, HasShapeAt, Behind, IsIn, IsPlaced}
-use Rattle.yarn_check.specs.Fits.{Parts, FitsStack, FitsRest, parts_of, rebuilt}
-use Rattle.yarn_check.specs.Laws.{IsRunnable, RebuildsShaped, IsOfParts, PartsFit}
+use Rattle.yarn_check.specs.Fits.{Parts, FitsRest, parts_of, rebuilt}
+use Rattle.yarn_check.specs.Laws.{IsRunnable, RebuildsShaped, PartsFit}
 use Rattle.yarn_check.proofs.OneShapes.{one_shapes}
 use Rattle.yarn_check.proofs.Places.{of_titled, one_of, something_is, no_offers}
 

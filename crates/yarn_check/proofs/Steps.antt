@@ -1,7 +1,6 @@
 -- One step from a shaped state.
-use Rattle.std.proofs.Common.{◌≡◌, ◌<◌, ℕ, zero, suc, ◌-◌, List, [], ◌∷◌, length, Bool, true, false, ◌&&◌, if◌then◌else◌, Contains, Option, Some, None, refl, sym, ap, ◌∙◌, subst, arith, slice_get}
+use Rattle.std.proofs.Common.{◌≡◌, ℕ, zero, suc, ◌-◌, List, [], ◌∷◌, length, Bool, true, false, ◌&&◌, if◌then◌else◌, Contains, Option, Some, None, refl, sym, ap, ◌∙◌, subst, arith, slice_get}
 use Rattle.std.proofs.lemmas.Bool.{leb-true, and_parts}
-use Rattle.std.proofs.lemmas.Option.{slice_get_within}
 use Rattle.yarn_value.specs.declared.value.Value as V
 use Rattle.yarn_value.specs.declared.value.Value.TheVariants as value
 use Rattle.yarn_value.specs.declared.fault.RunFault.TheVariants as fault
@@ -23,10 +22,10 @@ use Rattle.yarn_code.specs.Parts.{code_titled, line_at}
 use Rattle.yarn_code.specs.Fields.{IsFitting, IsNodeField, HasOperands}
 use Rattle.yarn_code.specs.MachineState as m
 use Rattle.yarn_code.specs.MachineState.{Stack, Offer, choices, Leave, Stop, To, Rest, Line, Options, Command, Starts, Ends, Cause, Ended, Fault, Doing, Runs, Enters, Rests, Asks, Over, Here, moved_to, MachineState, machine, runs_at, rests_at, enters, with_state, entry}
-use Rattle.yarn_code.specs.Machine.{Stepped, Quiet, Shows, Finishes, StandsAt, Stuck, when_some, when_empty, when_first, label_at, breaks, act, in_node, enters_to, leaves, closed, answered, waits, takes_reply, asks, step, next}
+use Rattle.yarn_code.specs.Machine.{Stepped, Quiet, Shows, Finishes, StandsAt, Stuck, when_some, when_empty, when_first, label_at, breaks, act, in_node, enters_to, leaves, closed, answered, takes_reply, asks, step}
 use Rattle.yarn_check.specs.Shapes as s
 use Rattle.yarn_check.specs.Shapes.{shape, IsValidNode}
-use Rattle.yarn_check.specs.Shaped.{IsOf, HasOffers, IsShaped, IsAtOptions, IsAtCall, IsPlaced, IsStored, Shaped}
+use Rattle.yarn_check.specs.Shaped.{IsOf, HasOffers, IsShaped, IsAtOptions, IsAtCall, IsPlaced, IsStored}
 use Rattle.yarn_check.specs.Laws.{IsRunnable, NumberFits, TapeFits, IsGood, IsStep, Steps, Begins}
 use Rattle.yarn_check.proofs.SameKinds.{kind_same}
 use Rattle.yarn_check.proofs.Places.{of_titled, of_got, coded_at}

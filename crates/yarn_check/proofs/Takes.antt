@@ -1,5 +1,5 @@
 -- What is taken off a stack that has entries.
-use Rattle.std.proofs.Common.{◌≡◌, ◌≤◌, ℕ, zero, suc, ◌+◌, List, [], ◌∷◌, length, Bool, true, false, if◌then◌else◌, Some, None, Contains, refl, sym, ap, ◌∙◌, arith}
+use Rattle.std.proofs.Common.{◌≡◌, ◌≤◌, ℕ, zero, suc, ◌+◌, List, [], ◌∷◌, length, Bool, true, false, if◌then◌else◌, Some, None, Contains, refl, sym, ◌∙◌, arith}
 use Rattle.yarn_value.specs.declared.value.Value as V
 use Rattle.yarn_value.specs.declared.value.Value.TheVariants as value
 use Rattle.yarn_value.specs.declared.value.Kind.{Kind}
@@ -18,7 +18,7 @@ module _ {R : Type 0} (P : R → Type 0) (stuck : R) (goals : List Goal) where
   pub values_taken : (count : ℕ) (ks : List Kind) (vs : List V.Value) (es : List ShapeEntry) (stack : Stack) (go : List Kind → List ShapeEntry → Flow) (f : List V.Value → Stack → R) →
       AreOf ks vs → HasEntries es stack → take_kinds count ks es go ≡ Some goals →
       ((ks1 : List Kind) (vs1 : List V.Value) (es1 : List ShapeEntry) (stack1 : Stack) →
-          AreOf ks1 vs1 → length vs1 ≡ count + length vs → HasEntries es1 stack1 → go ks1 es1 ≡ Some goals → P (f vs1 stack1)) →
+      AreOf ks1 vs1 → length vs1 ≡ count + length vs → HasEntries es1 stack1 → go ks1 es1 ≡ Some goals → P (f vs1 stack1)) →
       P (take_values count vs stack stuck f)
   values_taken zero ks vs es stack go f are has can next = next ks vs es stack are (omega arith) has can
   values_taken (suc n) ks vs (s.Of k ∷ es) (m.Value v ∷ stack) go f are has can next =

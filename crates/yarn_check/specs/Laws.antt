@@ -1,5 +1,5 @@
 -- What holds of the states of a valid program (docs/meaning.md, Never stuck).
-use Rattle.std.specs.Prelude.{◌≡◌, ℕ, zero, suc, ◌+◌, List, [], ◌∷◌, length, true, false, ◌&&◌, All, Some, is_some, slice_get, IsTrue, ⊤}
+use Rattle.std.specs.Prelude.{◌≡◌, ℕ, zero, suc, ◌+◌, List, [], ◌∷◌, length, true, false, ◌&&◌, Some, is_some, slice_get, IsTrue, ⊤}
 use Rattle.yarn_value.specs.declared.value.Value.{Value}
 use Rattle.yarn_value.specs.declared.value.Value.TheVariants.{Number, Str, Truth}
 use Rattle.yarn_value.specs.declared.fault.RunFault.TheVariants as fault
@@ -20,7 +20,7 @@ use Rattle.yarn_code.specs.MachineState as machine
 use Rattle.yarn_code.specs.MachineState.{Offer, choices, Rest, Line, Options, Command, Starts, Ends, Doing, Runs, Enters, Rests, Asks, Over, MachineState, runs_at, with_state, entry}
 use Rattle.yarn_code.specs.Machine.{Stepped, Quiet, Shows, Finishes, StandsAt, Stuck, next, breaks}
 use Rattle.yarn_code.specs.Runs.{Ran, Reaches}
-use Rattle.yarn_check.specs.Shapes.{Shape, Shapes, HasShape, Agrees, IsValid}
+use Rattle.yarn_check.specs.Shapes.{Shapes, Agrees, IsValid}
 use Rattle.yarn_check.specs.Shaped.{IsStored, IsIn, Shaped}
 use Rattle.yarn_check.specs.Fits.{Parts, Fits, rebuilt, parts_of}
 

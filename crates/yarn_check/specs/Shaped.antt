@@ -9,7 +9,6 @@ use Rattle.yarn_value.specs.Signatures.{signature_named}
 use Rattle.yarn_value.specs.Pairs.{Pairs}
 use Rattle.yarn_code.specs.declared.program.Instr.{Instr}
 use Rattle.yarn_code.specs.declared.program.Instr.TheVariants as code
-use Rattle.yarn_code.specs.declared.program.Coded.{Coded}
 use Rattle.yarn_code.specs.declared.program.CodeNode.{CodeNode}
 use Rattle.yarn_code.specs.declared.program.Program.{Program}
 use Rattle.yarn_code.specs.Parts.{pairs_of, code_titled}
