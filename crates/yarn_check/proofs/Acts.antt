@@ -69,7 +69,8 @@ module _ (p : Program) (n : CodeNode) (here : Here) (named : code_titled here.no
 
   -- it runs on at a goal
   runs_on : (at : ℕ) (es : List ShapeEntry) (ls : List ℕ) (stack : Stack) (pending : List Offer) (st : State) →
-      Reached (goal at (shape es ls)) → HasEntries es stack → HasOffers p ls pending → IsStored p st.store → TapeFits st.tape → Q (Quiet (machine here at stack pending Runs st))
+      Reached (goal at (shape es ls)) → HasEntries es stack → HasOffers p ls pending → IsStored p st.store → TapeFits st.tape →
+      Q (Quiet (machine here at stack pending Runs st))
   runs_on at es ls stack pending st reached entered offered is tape = (
     record {
       shaped = record {
@@ -110,7 +111,8 @@ module _ (p : Program) (n : CodeNode) (here : Here) (named : code_titled here.no
     next_on es1 ls1 stack1 pending1 st1 can entered1 offered1 is1 tape1 =
         runs_on (place + 1) es1 ls1 stack1 pending1 st1 (one_of Reached (goal (place + 1) (shape es1 ls1)) [] goals can reached) entered1 offered1 is1 tape1
 
-    next_shaped : (es1 : List ShapeEntry) (ls1 : List ℕ) (stack1 : Stack) (pending1 : List Offer) (doing1 : Doing) (st1 : State) → goes_on place es1 ls1 ≡ Some goals →
+    next_shaped : (es1 : List ShapeEntry) (ls1 : List ℕ) (stack1 : Stack) (pending1 : List Offer) (doing1 : Doing) (st1 : State) →
+        goes_on place es1 ls1 ≡ Some goals →
         HasEntries es1 stack1 → HasOffers p ls1 pending1 → IsShaped p n (machine here (place + 1) stack1 pending1 doing1 st1)
     next_shaped es1 ls1 stack1 pending1 doing1 st1 can entered1 offered1 = record {
       entries = es1;
@@ -144,9 +146,14 @@ module _ (p : Program) (n : CodeNode) (here : Here) (named : code_titled here.no
         (λ b rest. Quiet (runs_at (if b then place + 1 else label) stack w)) entered can
         (λ b es1 stack1 has1 can1. by_test b can1)
       where
-        by_test : (b : Bool) → Some (goal label (shape es ls) ∷ goal (place + 1) (shape es ls) ∷ []) ≡ Some goals → Q (Quiet (runs_at (if b then place + 1 else label) stack w))
-        by_test true can1 = runs_on (place + 1) es ls stack pending st (second_of Reached (goal label (shape es ls)) (goal (place + 1) (shape es ls)) goals can1 reached) entered offered is tape
-        by_test false can1 = runs_on label es ls stack pending st (one_of Reached (goal label (shape es ls)) (goal (place + 1) (shape es ls) ∷ []) goals can1 reached) entered offered is tape
+        by_test : (b : Bool) → Some (goal label (shape es ls) ∷ goal (place + 1) (shape es ls) ∷ []) ≡ Some goals →
+            Q (Quiet (runs_at (if b then place + 1 else label) stack w))
+        by_test true can1 =
+            runs_on (place + 1) es ls stack pending st
+            (second_of Reached (goal label (shape es ls)) (goal (place + 1) (shape es ls)) goals can1 reached) entered offered is tape
+        by_test false can1 =
+            runs_on label es ls stack pending st
+            (one_of Reached (goal label (shape es ls)) (goal (place + 1) (shape es ls) ∷ []) goals can1 reached) entered offered is tape
 
     -- ---- what is shown
 
@@ -199,14 +206,17 @@ module _ (p : Program) (n : CodeNode) (here : Here) (named : code_titled here.no
       tape = tape;
     }
 
-    run_command : (count : ℕ) (text : List ℕ) → IsHere (code.RunCommand count text) → HasOperands (code.RunCommand count text) → Can (code.RunCommand count text) → Acts (code.RunCommand count text)
+    run_command : (count : ℕ) (text : List ℕ) → IsHere (code.RunCommand count text) → HasOperands (code.RunCommand count text) →
+        Can (code.RunCommand count text) → Acts (code.RunCommand count text)
     run_command count text stands operands can =
         let nothing = nothing_is ls (take_kinds count [] es (λ kinds rest. goes_on place rest ls)) goals can in
         values_taken Q Stuck goals count [] [] es stack (λ kinds rest. goes_on place rest ls)
-        (λ vs rest. when_some (template_of text count) Stuck (λ parts. Shows (event.Command (expanded parts vs)) (rests_at (place + 1) rest (Command (expanded parts vs)) w))) tt entered nothing.1
+        (λ vs rest. when_some (template_of text count) Stuck
+        (λ parts. Shows (event.Command (expanded parts vs)) (rests_at (place + 1) rest (Command (expanded parts vs)) w))) tt entered nothing.1
         (λ ks vs es1 stack1 are counted entered1 can1. command_shown count text stands vs es1 stack1 entered1 can1 (template_of text count) operands.template)
 
-    add_option : (count : ℕ) (id : List ℕ) (label : ℕ) (conditional : Bool) → IsLine p count id → Can (code.AddOption count id label conditional) → Acts (code.AddOption count id label conditional)
+    add_option : (count : ℕ) (id : List ℕ) (label : ℕ) (conditional : Bool) → IsLine p count id → Can (code.AddOption count id label conditional) →
+        Acts (code.AddOption count id label conditional)
     add_option count id label conditional known can =
         truth_taken Q Stuck goals conditional es stack (λ rest. take_kinds count [] rest (λ kinds rest1. goes_on place rest1 (ls ++ label ∷ [])))
         (λ b rest. take_values count [] rest Stuck (λ vs rest1. Quiet (machine here (place + 1) rest1 (pending ++ offer id vs b label ∷ []) Runs st))) entered can
@@ -271,7 +281,8 @@ module _ (p : Program) (n : CodeNode) (here : Here) (named : code_titled here.no
     store_variable : (name : List ℕ) → Can (code.StoreVariable name) → Acts (code.StoreVariable name)
     store_variable name can = by_kind (kind_under p name) refl can
       where
-        by_kind : (o : Option Kind) → kind_under p name ≡ o → on_known o (λ k. on_kind k es (λ rest. goes_on place es ls)) ≡ Some goals → Acts (code.StoreVariable name)
+        by_kind : (o : Option Kind) → kind_under p name ≡ o → on_known o (λ k. on_kind k es (λ rest. goes_on place es ls)) ≡ Some goals →
+            Acts (code.StoreVariable name)
         by_kind (Some k) known h =
             value_taken Q Stuck goals k es stack (λ rest. goes_on place es ls) (λ v rest. Quiet (machine here (place + 1) stack pending Runs (with_value name v st))) entered h
             (λ v es1 stack1 of_kind entered1 can1. next_on es ls stack pending (with_value name v st) can1 entered offered (put_stored p st.store is name v k known of_kind) tape)
@@ -341,8 +352,10 @@ module _ (p : Program) (n : CodeNode) (here : Here) (named : code_titled here.no
         let same : count ≡ length vs = omega arith in
         by_kind ks vs es1 stack1 are (stands ∙ ap (λ k. Some (coded line (code.CallFunc k name))) same) entered1 (kind_called p name ks) refl can1)
       where
-        by_kind : (ks : List Kind) (vs : List V.Value) (es1 : List ShapeEntry) (stack1 : Stack) → AreOf ks vs → IsHere (code.CallFunc (length vs) name) → HasEntries es1 stack1 →
-            (o : Option Kind) → kind_called p name ks ≡ o → on_known o (λ k. goes_on place (s.Of k ∷ es1) ls) ≡ Some goals → Q (calls p n line (builtin_named name) name vs stack1 w)
+        by_kind : (ks : List Kind) (vs : List V.Value) (es1 : List ShapeEntry) (stack1 : Stack) → AreOf ks vs →
+            IsHere (code.CallFunc (length vs) name) → HasEntries es1 stack1 →
+            (o : Option Kind) → kind_called p name ks ≡ o → on_known o (λ k. goes_on place (s.Of k ∷ es1) ls) ≡ Some goals →
+            Q (calls p n line (builtin_named name) name vs stack1 w)
         by_kind ks vs es1 stack1 are stands1 entered1 (Some k) typed h = called_on name (builtin_named name) ks vs k es1 stack1 refl typed are stands1 entered1 h
         by_kind ks vs es1 stack1 are stands1 entered1 None typed h = absurd cc
 
@@ -360,7 +373,8 @@ module _ (p : Program) (n : CodeNode) (here : Here) (named : code_titled here.no
     run_node : IsHere code.RunNode → Can code.RunNode → Acts code.RunNode
     run_node stands can =
         let nothing = nothing_is ls (on_kind kind.Str es (λ rest. Some [])) goals can in
-        text_on_top Q Stuck goals es stack (λ rest. Some []) (λ title rest. Shows (event.NodeEnd here.node) (machine here place [] [] (Rests (Ends (To title))) st)) entered nothing.1
+        text_on_top Q Stuck goals es stack (λ rest. Some [])
+        (λ title rest. Shows (event.NodeEnd here.node) (machine here place [] [] (Rests (Ends (To title))) st)) entered nothing.1
         (λ title stack1 short. record {
           shaped = record {
             placed = record {

@@ -37,7 +37,8 @@ of_named Q (first ∷ rows) name row all h = by_test (of_named Q rows name row a
     by_test later false is = later is
 
 -- each row of the language applies an operation, or is one of the two on visits
-by_rows : (Q : Row → Type 0) → ((name : List ℕ) (o : Op) → Q (applied name o)) → ((name : List ℕ) → Q (on_visits name kind.Truth)) → ((name : List ℕ) → Q (on_visits name kind.Number)) →
+by_rows : (Q : Row → Type 0) → ((name : List ℕ) (o : Op) → Q (applied name o)) → ((name : List ℕ) → Q (on_visits name kind.Truth)) →
+    ((name : List ℕ) → Q (on_visits name kind.Number)) →
     OfRows Q builtin_rows
 by_rows Q applies visited count = (
   applies (codes "#add") op.Add,
@@ -102,7 +103,8 @@ by_rows Q applies visited count = (
 )
 
 -- what holds of such rows holds of each builtin
-of_builtin : (Q : Row → Type 0) → ((name : List ℕ) (o : Op) → Q (applied name o)) → ((name : List ℕ) → Q (on_visits name kind.Truth)) → ((name : List ℕ) → Q (on_visits name kind.Number)) →
+of_builtin : (Q : Row → Type 0) → ((name : List ℕ) (o : Op) → Q (applied name o)) → ((name : List ℕ) → Q (on_visits name kind.Truth)) →
+    ((name : List ℕ) → Q (on_visits name kind.Number)) →
     (name : List ℕ) (row : Row) → builtin_named name ≡ Some row → Q row
 unfolding builtin_named
 of_builtin Q applies visited count name row is = of_named Q builtin_rows name row (by_rows Q applies visited count) is

@@ -11,10 +11,12 @@ use Rattle.yarn_check.specs.Shaped.{AreOf}
 use Rattle.yarn_check.proofs.SameKinds.{kind_same}
 
 -- a builtin takes the kinds on which it has a kind
-pub row_called : (row : Row) (o : Option Signature) (ks : List Kind) (k : Kind) → kind_of_call (Some row) o ks ≡ Some k → (takes row.first row.second ks ≡ true) × (row.result ≡ k)
+pub row_called : (row : Row) (o : Option Signature) (ks : List Kind) (k : Kind) → kind_of_call (Some row) o ks ≡ Some k →
+    (takes row.first row.second ks ≡ true) × (row.result ≡ k)
 row_called row o ks k is = by_test (takes row.first row.second ks) refl is
   where
-    by_test : (b : Bool) → takes row.first row.second ks ≡ b → (if b then Some row.result else None) ≡ Some k → (takes row.first row.second ks ≡ true) × (row.result ≡ k)
+    by_test : (b : Bool) → takes row.first row.second ks ≡ b → (if b then Some row.result else None) ≡ Some k →
+        (takes row.first row.second ks ≡ true) × (row.result ≡ k)
     by_test true taken h = (taken, cc)
     by_test false taken h = absurd cc
 
@@ -28,7 +30,8 @@ each_of (q ∷ qs) (k ∷ ks) (v ∷ vs) h are =
     (record { kind = are.0.kind ∙ sym (kind_same q k parts.0); fits = are.0.fits }, each_of qs ks vs parts.1 are.1)
 
 -- so does a host function
-pub host_called : (s : Signature) (ks : List Kind) (vs : List Value) (k : Kind) → kind_of_call None (Some s) ks ≡ Some k → AreOf ks vs → AreOf s.params vs × (s.result ≡ k)
+pub host_called : (s : Signature) (ks : List Kind) (vs : List Value) (k : Kind) → kind_of_call None (Some s) ks ≡ Some k → AreOf ks vs →
+    AreOf s.params vs × (s.result ≡ k)
 host_called s ks vs k is are = by_test (same_kinds s.params ks) refl is
   where
     by_test : (b : Bool) → same_kinds s.params ks ≡ b → (if b then Some s.result else None) ≡ Some k → AreOf s.params vs × (s.result ≡ k)

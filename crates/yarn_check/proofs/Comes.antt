@@ -22,7 +22,7 @@ use Rattle.yarn_check.specs.Shaped.{IsShaped, IsPlaced, IsStored}
 use Rattle.yarn_check.specs.Laws.{IsRunnable, TapeFits, IsGood, IsStep, OrAsks, ComesBy, Comes, ComesSoon}
 use Rattle.yarn_check.proofs.Places.{coded_at}
 use Rattle.yarn_check.proofs.Acts.{Goes, IsAct}
-use Rattle.yarn_check.proofs.Steps.{entering, acting, run_act, steps}
+use Rattle.yarn_check.proofs.Steps.{gives_start, acting, run_act, steps}
 
 -- a place that has a shape is in the node
 pub within : (p : Program) (n : CodeNode) (w : MachineState) → IsShaped p n w → w.place < length n.code
@@ -128,7 +128,8 @@ module _ (p : Program) (here : Here) (place : ℕ) (stack : Stack) (pending : Li
       by_reply false = tt
 
       by_test : (b : Bool) →
-          Lands here place (if b then takes_reply p name r.value (with_state (with_tape t st) (at_work (Asks name args))) else StandsAt (moments.Asks name args) (at_work (Asks name args)))
+          Lands here place (if b then takes_reply p name r.value (with_state (with_tape t st) (at_work (Asks name args)))
+          else StandsAt (moments.Asks name args) (at_work (Asks name args)))
       by_test true = by_reply (is_reply_of (signature_named p.functions name) r.value)
       by_test false = tt
 
@@ -150,20 +151,19 @@ module _ (p : Program) (here : Here) (place : ℕ) (stack : Stack) (pending : Li
 -- ---- how soon it comes
 
 module _ (p : Program) (runnable : IsRunnable p) where
-  over_comes : (most ticks : ℕ) (here : Here) (place : ℕ) (stack : Stack) (pending : List Offer) (cause : Cause) (st : State) → 1 ≤ most → Comes p most ticks (machine here place stack pending (Over cause) st)
+  over_comes : (most ticks : ℕ) (here : Here) (place : ℕ) (stack : Stack) (pending : List Offer) (cause : Cause) (st : State) → 1 ≤ most →
+      Comes p most ticks (machine here place stack pending (Over cause) st)
   over_comes zero ticks here place stack pending cause st some = absurd (omega arith)
   over_comes (suc most) ticks here place stack pending Ended st some = tt
   over_comes (suc most) ticks here place stack pending (Fault at) st some = tt
 
   -- a node that is entered gives its start
-  enters_comes : (most ticks : ℕ) (here : Here) (place : ℕ) (stack : Stack) (pending : List Offer) (st : State) → IsPlaced p Enters (machine here place stack pending Enters st) → 1 ≤ most →
+  enters_comes : (most ticks : ℕ) (here : Here) (place : ℕ) (stack : Stack) (pending : List Offer) (st : State) →
+      IsPlaced p Enters (machine here place stack pending Enters st) → 1 ≤ most →
       Comes p most ticks (machine here place stack pending Enters st)
   enters_comes zero ticks here place stack pending st placed some = absurd (omega arith)
   enters_comes (suc most) ticks here place stack pending st placed some =
-      let at = placed.holds in
-      let w = machine here place stack pending Enters st in
-      subst (ComesBy (Comes p most ticks)) (sym (entering place stack pending (in_node p w (λ n. Shows (event.NodeStart here.node) (rests_at 0 [] Starts w))) at.first at.empty.no_entries at.empty.no_offers))
-      (subst (λ o. ComesBy (Comes p most ticks) (when_some o Stuck (λ n. Shows (event.NodeStart here.node) (rests_at 0 [] Starts w)))) (sym placed.named) tt)
+      subst (ComesBy (Comes p most ticks)) (sym (gives_start p (machine here place stack pending Enters st) placed)) tt
 
   -- from where a state runs, each tick comes nearer to the node's end
   abbrev Running : ℕ → ℕ → Type 0
@@ -173,14 +173,16 @@ module _ (p : Program) (runnable : IsRunnable p) where
 
   -- the node of the state is the one of its title
   module _ (most ticks : ℕ) (later : Running most ticks) (n : CodeNode) where
-    placed_runs : (here : Here) (place : ℕ) (stack : Stack) (pending : List Offer) (st : State) → IsPlaced p Runs (machine here place stack pending Runs st) → IsStored p st.store → TapeFits st.tape →
+    placed_runs : (here : Here) (place : ℕ) (stack : Stack) (pending : List Offer) (st : State) →
+        IsPlaced p Runs (machine here place stack pending Runs st) → IsStored p st.store → TapeFits st.tape →
         code_titled here.node p.nodes ≡ Some n → length n.code ≤ place + ticks → ticks < most → Comes p most ticks (machine here place stack pending Runs st)
     placed_runs here place stack pending st placed is tape named bound fewer =
         later placed.node here place stack pending st is tape placed.named placed.holds
         (let same : Some n ≡ Some placed.node = sym named ∙ placed.named in let e : n ≡ placed.node = cc in subst (λ k. length k.code ≤ place + ticks) e bound) fewer
 
     goes_comes : (from : Here) (before : ℕ) (doing : Doing) (here : Here) (place : ℕ) (stack : Stack) (pending : List Offer) (st : State) →
-        Goes n from before (machine here place stack pending doing st) doing → IsPlaced p doing (machine here place stack pending doing st) → IsStored p st.store → TapeFits st.tape →
+        Goes n from before (machine here place stack pending doing st) doing →
+        IsPlaced p doing (machine here place stack pending doing st) → IsStored p st.store → TapeFits st.tape →
         code_titled from.node p.nodes ≡ Some n → length n.code ≤ before + suc ticks → ticks < most →
         OrAsks doing (Comes p most ticks (machine here place stack pending doing st))
     goes_comes from before Runs here place stack pending st goes placed is tape named bound fewer =
@@ -191,7 +193,8 @@ module _ (p : Program) (runnable : IsRunnable p) where
     goes_comes from before Enters here place stack pending st goes placed is tape named bound fewer = absurd goes
     goes_comes from before (Rests rest) here place stack pending st goes placed is tape named bound fewer = absurd goes
 
-    act_comes : (here : Here) (place : ℕ) (x : Stepped) → IsAct p n here place x → code_titled here.node p.nodes ≡ Some n → length n.code ≤ place + suc ticks → ticks < most → ComesBy (Comes p most ticks) x
+    act_comes : (here : Here) (place : ℕ) (x : Stepped) → IsAct p n here place x → code_titled here.node p.nodes ≡ Some n →
+        length n.code ≤ place + suc ticks → ticks < most → ComesBy (Comes p most ticks) x
     act_comes here place (Quiet w) h named bound fewer =
         goes_comes here place w.doing w.here w.place w.stack w.pending w.state h.1 h.0.shaped.placed h.0.shaped.stored h.0.tape named bound fewer
     act_comes here place (Shows shown w) h named bound fewer = tt
@@ -213,7 +216,8 @@ module _ (p : Program) (runnable : IsRunnable p) where
     abbrev most : ℕ
     most = suc (suc (length n.code))
 
-    landed_comes : (at : ℕ) (doing : Doing) (h : Here) (place : ℕ) (stack : Stack) (pending : List Offer) (st : State) → IsLanded here at (machine h place stack pending doing st) doing →
+    landed_comes : (at : ℕ) (doing : Doing) (h : Here) (place : ℕ) (stack : Stack) (pending : List Offer) (st : State) →
+        IsLanded here at (machine h place stack pending doing st) doing →
         IsPlaced p doing (machine h place stack pending doing st) → IsStored p st.store → TapeFits st.tape →
         OrAsks doing (Comes p most (length n.code) (machine h place stack pending doing st))
     landed_comes at Runs h place stack pending st landed placed is tape =
@@ -232,7 +236,8 @@ module _ (p : Program) (runnable : IsRunnable p) where
     step_comes place Stuck h landed = absurd h
 
     -- from a state that doesn't run
-    other_comes : (doing : Doing) (place : ℕ) (stack : Stack) (pending : List Offer) (st : State) → (doing ≡ Runs → ⊥) → IsGood p (machine here place stack pending doing st) →
+    other_comes : (doing : Doing) (place : ℕ) (stack : Stack) (pending : List Offer) (st : State) → (doing ≡ Runs → ⊥) →
+        IsGood p (machine here place stack pending doing st) →
         ComesBy (Comes p most (length n.code)) (step p doing (machine here place stack pending doing st))
     other_comes doing place stack pending st other good =
         step_comes place (step p doing (machine here place stack pending doing st)) (steps p (machine here place stack pending doing st) runnable good)

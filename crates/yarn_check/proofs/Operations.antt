@@ -169,7 +169,8 @@ none_taken op.TextOf h = cc
 none_taken o h = cc
 
 -- an operation on values of its row's kinds that fit
-pub operation_gives : (o : Op) (args : List Value) → takes (first_of o) (second_of o) (map kind_of args) ≡ true → AreFitting args → IsMeant (result_of o) (operation o args)
+pub operation_gives : (o : Op) (args : List Value) → takes (first_of o) (second_of o) (map kind_of args) ≡ true → AreFitting args →
+    IsMeant (result_of o) (operation o args)
 operation_gives o [] h fit = absurd (none_taken o h)
 operation_gives o (x ∷ []) h fit = of_one_gives o x h fit.0
 operation_gives o (x ∷ y ∷ []) h fit = of_two_gives o x y h

@@ -31,7 +31,8 @@ count_same n (Some x) None same = λ o q h g. absurd cc
 count_same n None s same = λ o q h g. absurd cc
 
 module _ (p : Program) where
-  follow_same : (a b : ℕ) → ((w : MachineState) (k : ℕ) → BothSame (run p a w k) (run p b w k)) → (x : Stepped) (k : ℕ) → BothSame (follow (run p a) x k) (follow (run p b) x k)
+  follow_same : (a b : ℕ) → ((w : MachineState) (k : ℕ) → BothSame (run p a w k) (run p b w k)) → (x : Stepped) (k : ℕ) →
+      BothSame (follow (run p a) x k) (follow (run p b) x k)
   follow_same a b same (Quiet w) k = same w k
   follow_same a b same (Shows shown w) zero = λ o q h g. cc
   follow_same a b same (Shows shown w) (suc k) = first_same (moment shown w.state) (run p a w k) (run p b w k) (same w k)
@@ -65,7 +66,8 @@ module _ (p : Program) where
   by_step k w x is most r h =
       (counted (ticks w.doing) r, record { steps = suc most; runs = ap (with_count (ticks w.doing)) (subst (λ y. follow (run p most) y k ≡ Some r) (sym is) h) })
 
-  by_next : (k : ℕ) (w : MachineState) (x : Stepped) → next p w ≡ x → IsStep p x → ((v : MachineState) → IsGood p v → Before k v) → OnQuiet (λ v. Exists v k) x → Exists w k
+  by_next : (k : ℕ) (w : MachineState) (x : Stepped) → next p w ≡ x → IsStep p x → ((v : MachineState) → IsGood p v → Before k v) →
+      OnQuiet (λ v. Exists v k) x → Exists w k
   by_next k w (Quiet v) is h later quiet = by_step k w (Quiet v) is quiet.1.steps quiet.0 quiet.1.runs
   by_next zero w (Shows shown v) is h later quiet = by_step zero w (Shows shown v) is zero (ran (moment shown v.state ∷ []) moments.Limit v) refl
   by_next (suc k) w (Shows shown v) is h later quiet =
@@ -108,7 +110,8 @@ module _ (p : Program) where
   goes_near most n here place named left Enters w goes = absurd goes
   goes_near most n here place named left (Rests rest) w goes = absurd goes
 
-  act_near : (most : ℕ) (n : CodeNode) (here : Here) (place : ℕ) → code_titled here.node p.nodes ≡ Some n → place < length n.code → Left most here place → (x : Stepped) → IsAct p n here place x →
+  act_near : (most : ℕ) (n : CodeNode) (here : Here) (place : ℕ) → code_titled here.node p.nodes ≡ Some n → place < length n.code →
+      Left most here place → (x : Stepped) → IsAct p n here place x →
       OnQuiet (Nearer most) x
   act_near zero n here place named inside left (Quiet w) h = let l = left n named in absurd (omega arith)
   act_near (suc most) n here place named inside left (Quiet w) h = goes_near most n here place named left w.doing w h.1
@@ -117,7 +120,8 @@ module _ (p : Program) where
   act_near most n here place named inside left (StandsAt stand w) h = tt
   act_near most n here place named inside left Stuck h = absurd h
 
-  landed_near : (most : ℕ) (here : Here) (place : ℕ) → LeftMore (suc most) here place → (doing : Doing) (w : MachineState) → IsLanded here place w doing → Near most w.here w.place doing
+  landed_near : (most : ℕ) (here : Here) (place : ℕ) → LeftMore (suc most) here place → (doing : Doing) (w : MachineState) →
+      IsLanded here place w doing → Near most w.here w.place doing
   landed_near most here place left Runs w landed =
       λ m found. let l = left.1 m (ap (λ x. code_titled x.node p.nodes) (sym landed.0) ∙ found) in let e = landed.1 in omega arith
   landed_near most here place left Enters w landed = tt
@@ -134,7 +138,8 @@ module _ (p : Program) where
   lands_near most here place left Stuck landed = tt
 
   module _ (runnable : IsRunnable p) where
-    near_next : (most : ℕ) (here : Here) (place : ℕ) (stack : Stack) (pending : List Offer) (st : State) (doing : Doing) → IsGood p (machine here place stack pending doing st) → Near most here place doing →
+    near_next : (most : ℕ) (here : Here) (place : ℕ) (stack : Stack) (pending : List Offer) (st : State) (doing : Doing) →
+        IsGood p (machine here place stack pending doing st) → Near most here place doing →
         OnQuiet (Nearer most) (step p doing (machine here place stack pending doing st))
     near_next most here place stack pending st Runs good near =
         let placed = good.shaped.placed in
@@ -149,9 +154,11 @@ module _ (p : Program) where
         first_quiet (Nearer most) place (when_empty stack pending Stuck (in_node p w begins))
         (empty_quiet (Nearer most) stack pending (in_node p w begins) (some_quiet (Nearer most) (code_titled here.node p.nodes) begins (λ n. tt)))
     near_next most here place stack pending st (Rests rest) good near =
-        lands_near most here place near (step p (Rests rest) (machine here place stack pending (Rests rest) st)) (lands p here place stack pending st (Rests rest) (λ e. cc))
+        lands_near most here place near (step p (Rests rest) (machine here place stack pending (Rests rest) st))
+        (lands p here place stack pending st (Rests rest) (λ e. cc))
     near_next most here place stack pending st (Asks name args) good near =
-        lands_near most here place near (step p (Asks name args) (machine here place stack pending (Asks name args) st)) (lands p here place stack pending st (Asks name args) (λ e. cc))
+        lands_near most here place near (step p (Asks name args) (machine here place stack pending (Asks name args) st))
+        (lands p here place stack pending st (Asks name args) (λ e. cc))
     near_next most here place stack pending st (Over cause) good near =
         over_quiet p here place stack pending st (Nearer most) cause (machine here place stack pending (Over cause) st)
 
@@ -175,7 +182,8 @@ module _ (p : Program) where
     -- ---- by the number of events, and then by the quiet steps that are left
 
     module _ (k : ℕ) (later : (v : MachineState) → IsGood p v → Before k v) where
-      quiet_exists : (most : ℕ) (x : Stepped) → IsStep p x → ((v : MachineState) → IsGood p v → Nearer most v → Exists v k) → OnQuiet (Nearer most) x → OnQuiet (λ v. Exists v k) x
+      quiet_exists : (most : ℕ) (x : Stepped) → IsStep p x → ((v : MachineState) → IsGood p v → Nearer most v → Exists v k) →
+          OnQuiet (Nearer most) x → OnQuiet (λ v. Exists v k) x
       quiet_exists most (Quiet v) h go near = go v h near
       quiet_exists most (Shows shown v) h go near = tt
       quiet_exists most (Finishes v) h go near = tt

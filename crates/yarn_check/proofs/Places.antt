@@ -38,7 +38,8 @@ got_at (x ∷ xs) zero lt = (x, refl)
 got_at (x ∷ xs) (suc i) lt = got_at xs i (omega arith)
 
 -- an instruction stands where there is a shape
-pub coded_at : (p : Program) (n : CodeNode) (place : ℕ) (shapes : Shapes) (s : Shape) → Agrees p n shapes → HasShape shapes place s → (c : Coded) × (slice_get n.code place ≡ Some c)
+pub coded_at : (p : Program) (n : CodeNode) (place : ℕ) (shapes : Shapes) (s : Shape) → Agrees p n shapes → HasShape shapes place s →
+    (c : Coded) × (slice_get n.code place ≡ Some c)
 coded_at p n place shapes s agrees has =
     let within = slice_get_within shapes place (Some s) has in
     let counted = agrees.counted in
@@ -79,7 +80,8 @@ are_kinds (k ∷ ks) [] are = absurd are
 
 -- ---- options
 
-pub offers_and : (p : Program) (labels : List ℕ) (offers : List Offer) (label : ℕ) (o : Offer) → HasOffers p labels offers → IsOffer p label o → HasOffers p (labels ++ label ∷ []) (offers ++ o ∷ [])
+pub offers_and : (p : Program) (labels : List ℕ) (offers : List Offer) (label : ℕ) (o : Offer) → HasOffers p labels offers → IsOffer p label o →
+    HasOffers p (labels ++ label ∷ []) (offers ++ o ∷ [])
 offers_and p [] [] label o has is = (is, tt)
 offers_and p (l ∷ ls) (x ∷ xs) label o has is = (has.0, offers_and p ls xs label o has.1 is)
 offers_and p [] (x ∷ xs) label o has is = absurd has

@@ -18,7 +18,8 @@ use Rattle.yarn_check.proofs.Places.{of_titled, one_of, something_is, no_offers}
 
 -- ---- behind an instruction that gives something nothing is pending
 
-kinds_leave : (count : ℕ) (ks : List Kind) (es : List ShapeEntry) (go : List Kind → List ShapeEntry → Flow) (goals : List Goal) → take_kinds count ks es go ≡ Some goals →
+kinds_leave : (count : ℕ) (ks : List Kind) (es : List ShapeEntry) (go : List Kind → List ShapeEntry → Flow) (goals : List Goal) →
+    take_kinds count ks es go ≡ Some goals →
     (ks1 : List Kind) × (rest : List ShapeEntry) × (go ks1 rest ≡ Some goals)
 kinds_leave zero ks es go goals can = (ks, es, can)
 kinds_leave (suc n) ks (s.Of k ∷ es) go goals can = kinds_leave n (k ∷ ks) es go goals can
@@ -28,9 +29,11 @@ kinds_leave (suc n) ks [] go goals can = absurd cc
 
 module _ (p : Program) where
   abbrev Clears : Instr → Type 0
-  Clears instr = (at : ℕ) (es : List ShapeEntry) (ls : List ℕ) (goals : List Goal) → flow p instr at es ls ≡ Some goals → (rest : List ShapeEntry) × (goes_on at rest [] ≡ Some goals)
+  Clears instr = (at : ℕ) (es : List ShapeEntry) (ls : List ℕ) (goals : List Goal) →
+      flow p instr at es ls ≡ Some goals → (rest : List ShapeEntry) × (goes_on at rest [] ≡ Some goals)
 
-  taken_clears : (count at : ℕ) (es : List ShapeEntry) (ls : List ℕ) (goals : List Goal) → s.if_nothing ls (take_kinds count [] es (λ kinds rest. goes_on at rest ls)) ≡ Some goals →
+  taken_clears : (count at : ℕ) (es : List ShapeEntry) (ls : List ℕ) (goals : List Goal) →
+      s.if_nothing ls (take_kinds count [] es (λ kinds rest. goes_on at rest ls)) ≡ Some goals →
       (rest : List ShapeEntry) × (goes_on at rest [] ≡ Some goals)
   taken_clears count at es [] goals can = let left = kinds_leave count [] es (λ kinds rest. goes_on at rest []) goals can in (left.1, left.2)
   taken_clears count at es (l ∷ ls) goals can = absurd cc
@@ -51,7 +54,8 @@ module _ (p : Program) where
       let left = clears behind.before st.shape.entries st.shape.pending runs.goals runs.can in
       let reached = one_of (IsReached n st.has.shapes behind.before) (goal (behind.before + 1) (shape left.0 [])) [] runs.goals left.1 runs.reached in
       let here : HasShape st.has.shapes place (shape left.0 []) = subst (λ k. HasShape st.has.shapes k (shape left.0 [])) (sym behind.next) reached.has in
-      let there : HasShape at.shapes place (shape left.0 []) = subst (λ all. HasShape all place (shape left.0 [])) (one_shapes p n st.has.shapes at.shapes st.has.agrees at.agrees) here in
+      let there : HasShape at.shapes place (shape left.0 []) =
+          subst (λ all. HasShape all place (shape left.0 [])) (one_shapes p n st.has.shapes at.shapes st.has.agrees at.agrees) here in
       let both : Some (Some sh) ≡ Some (Some (shape left.0 [])) = sym at.has ∙ there in
       let same : sh ≡ shape left.0 [] = cc in
       ap (λ x. x.pending) same
@@ -82,7 +86,13 @@ module _ (p : Program) where
           holds = record {
             behind = record {
               behind = f.behind;
-              shaped = record { entries = stack.shape.entries; labels = stack.shape.pending; has = stack.has; entered = stack.entered; offered = nothing_offered stack.shape.pending nothing };
+              shaped = record {
+                entries = stack.shape.entries;
+                labels = stack.shape.pending;
+                has = stack.has;
+                entered = stack.entered;
+                offered = nothing_offered stack.shape.pending nothing;
+              };
             };
             fits = f.values_fit;
           };
@@ -99,7 +109,13 @@ module _ (p : Program) where
             text = f.text;
             behind = record {
               behind = f.behind;
-              shaped = record { entries = stack.shape.entries; labels = stack.shape.pending; has = stack.has; entered = stack.entered; offered = nothing_offered stack.shape.pending nothing };
+              shaped = record {
+                entries = stack.shape.entries;
+                labels = stack.shape.pending;
+                has = stack.has;
+                entered = stack.entered;
+                offered = nothing_offered stack.shape.pending nothing;
+              };
             };
           };
         }
@@ -163,7 +179,11 @@ module _ (p : Program) where
         record {
           node = placed.node;
           named = placed.named;
-          holds = record { behind = at.behind; stack_fits = record { shape = shape sh.entries sh.labels; has = sh.has; entered = sh.entered }; values_fit = placed.holds.fits };
+          holds = record {
+            behind = at.behind;
+            stack_fits = record { shape = shape sh.entries sh.labels; has = sh.has; entered = sh.entered };
+            values_fit = placed.holds.fits;
+          };
         },
         none_offered sh.labels w.pending
             (nothing_behind placed.node w.place (code.RunLine (length values) id) (shape sh.entries sh.labels) (line_clears (length values) id) at.behind sh.has) sh.offered,
@@ -174,7 +194,12 @@ module _ (p : Program) where
         record {
           node = placed.node;
           named = placed.named;
-          holds = record { count = at.count; text = at.text; behind = at.behind.behind; stack_fits = record { shape = shape sh.entries sh.labels; has = sh.has; entered = sh.entered } };
+          holds = record {
+            count = at.count;
+            text = at.text;
+            behind = at.behind.behind;
+            stack_fits = record { shape = shape sh.entries sh.labels; has = sh.has; entered = sh.entered };
+          };
         },
         none_offered sh.labels w.pending
             (nothing_behind placed.node w.place (code.RunCommand at.count at.text) (shape sh.entries sh.labels) (command_clears at.count at.text) at.behind.behind sh.has) sh.offered,

@@ -36,7 +36,8 @@ use Rattle.yarn_check.proofs.Acts.{IsAct, acts_well}
 later_in : (l x : ℕ) (ls : List ℕ) → Contains ls x → Contains (l ∷ ls) x
 later_in l x ls h = let lt = h.1 in (suc h.0, omega arith, h.2)
 
-open_at : (p : Program) (k : ℕ) (labels : List ℕ) (offers : List Offer) → HasOffers p labels offers → is_open k (choices offers) ≡ true → Contains labels (label_at k offers)
+open_at : (p : Program) (k : ℕ) (labels : List ℕ) (offers : List Offer) → HasOffers p labels offers → is_open k (choices offers) ≡ true →
+    Contains labels (label_at k offers)
 open_at p zero labels [] has is = absurd cc
 open_at p (suc k) labels [] has is = absurd cc
 open_at p zero [] (o ∷ os) has is = absurd has
@@ -44,7 +45,8 @@ open_at p (suc k) [] (o ∷ os) has is = absurd has
 open_at p zero (l ∷ ls) (o ∷ os) has is = (0, omega arith, sym has.0.at)
 open_at p (suc k) (l ∷ ls) (o ∷ os) has is = later_in l (label_at k os) ls (open_at p k ls os has.1 is)
 
-chosen_at : (p : Program) (number : ℕ) (labels : List ℕ) (offers : List Offer) → HasOffers p labels offers → chooses number (choices offers) ≡ true → Contains labels (label_at (less_one number) offers)
+chosen_at : (p : Program) (number : ℕ) (labels : List ℕ) (offers : List Offer) → HasOffers p labels offers → chooses number (choices offers) ≡ true →
+    Contains labels (label_at (less_one number) offers)
 chosen_at p zero labels offers has is = absurd cc
 chosen_at p (suc k) labels offers has is = open_at p k labels offers has is
 
@@ -56,7 +58,8 @@ short_fits (value.Str text) h g = leb-true (length text) 65536 h
 short_fits (value.Truth b) h g = tt
 
 -- a right reply is a fitting value of the function's kind
-reply_is : (p : Program) (name : List ℕ) (one : Signature) (v : V.Value) → signature_named p.functions name ≡ Some one → is_reply_of (signature_named p.functions name) v ≡ true → NumberFits v → IsOf one.result v
+reply_is : (p : Program) (name : List ℕ) (one : Signature) (v : V.Value) → signature_named p.functions name ≡ Some one →
+    is_reply_of (signature_named p.functions name) v ≡ true → NumberFits v → IsOf one.result v
 reply_is p name one v named h g =
     let here : (same_kind one.result (kind_of v) && is_short v) ≡ true = ap (λ o. is_reply_of o v) (sym named) ∙ h in
     let parts = and_parts (same_kind one.result (kind_of v)) (is_short v) here in
@@ -64,8 +67,16 @@ reply_is p name one v named h g =
 
 -- ---- states with an empty stack
 
-pub entering : (place : ℕ) (stack : Stack) (pending : List Offer) (x : Stepped) → place ≡ 0 → stack ≡ [] → pending ≡ [] → when_first place Stuck (when_empty stack pending Stuck x) ≡ x
+entering : (place : ℕ) (stack : Stack) (pending : List Offer) (x : Stepped) → place ≡ 0 → stack ≡ [] → pending ≡ [] →
+    when_first place Stuck (when_empty stack pending Stuck x) ≡ x
 entering place stack pending x first no_entries no_offers = rw (first, no_entries, no_offers) refl
+
+-- a node that is entered gives its start
+pub gives_start : (p : Program) (w : MachineState) → IsPlaced p Enters w → step p Enters w ≡ Shows (event.NodeStart w.here.node) (rests_at 0 [] Starts w)
+gives_start p w placed =
+    let at = placed.holds in
+    let shows : CodeNode → Stepped = λ n. Shows (event.NodeStart w.here.node) (rests_at 0 [] Starts w) in
+    entering w.place w.stack w.pending (in_node p w shows) at.first at.empty.no_entries at.empty.no_offers ∙ ap (λ o. when_some o Stuck shows) placed.named
 
 pub emptied : (stack : Stack) (pending : List Offer) (x : Stepped) → stack ≡ [] → pending ≡ [] → when_empty stack pending Stuck x ≡ x
 emptied stack pending x no_entries no_offers = rw (no_entries, no_offers) refl
@@ -86,7 +97,8 @@ module _ (p : Program) (runnable : IsRunnable p) where
     abbrev pub acting : CodeNode → Stepped
     acting n = when_some (slice_get n.code place) Stuck (λ c. act p n c.line c.instr (machine here place stack pending doing st))
 
-    pub run_act : (n : CodeNode) → code_titled here.node p.nodes ≡ Some n → IsShaped p n (machine here place stack pending doing st) → IsAct p n here place (acting n)
+    pub run_act : (n : CodeNode) → code_titled here.node p.nodes ≡ Some n → IsShaped p n (machine here place stack pending doing st) →
+        IsAct p n here place (acting n)
     run_act n named shaped =
         let c = coded_at p n place shaped.has.shapes (shape shaped.entries shaped.labels) shaped.has.agrees shaped.has.has in
         let runs = shaped.has.agrees.runs place c.0 (shape shaped.entries shaped.labels) c.1 shaped.has.has in
@@ -104,7 +116,8 @@ module _ (p : Program) (runnable : IsRunnable p) where
     at_work doing = machine here place stack pending doing st
 
     -- in the node of the state
-    in_its_node : (f : CodeNode → Stepped) (n : CodeNode) → code_titled here.node p.nodes ≡ Some n → IsStep p (f n) → IsStep p (when_some (code_titled here.node p.nodes) Stuck f)
+    in_its_node : (f : CodeNode → Stepped) (n : CodeNode) → code_titled here.node p.nodes ≡ Some n → IsStep p (f n) →
+        IsStep p (when_some (code_titled here.node p.nodes) Stuck f)
     in_its_node f n named h = subst (λ o. IsStep p (when_some o Stuck f)) (sym named) h
 
     good_over : (cause : Cause) → IsGood p (machine here place [] [] (Over cause) st)
@@ -116,14 +129,13 @@ module _ (p : Program) (runnable : IsRunnable p) where
     runs_step : StepOf Runs
     runs_step placed =
         in_its_node (acting here place stack pending Runs st is tape) placed.node placed.named
-        (act_step placed.node here place (acting here place stack pending Runs st is tape placed.node) (run_act here place stack pending Runs st is tape placed.node placed.named placed.holds))
+        (act_step placed.node here place (acting here place stack pending Runs st is tape placed.node)
+        (run_act here place stack pending Runs st is tape placed.node placed.named placed.holds))
 
     enters_step : StepOf Enters
     enters_step placed =
         let valid = valid_node here.node placed.node placed.named in
-        let at = placed.holds in
-        subst (IsStep p) (sym (entering place stack pending (in_node p (at_work Enters) (λ n. Shows (event.NodeStart here.node) (rests_at 0 [] Starts (at_work Enters)))) at.first at.empty.no_entries at.empty.no_offers))
-        (in_its_node (λ n. Shows (event.NodeStart here.node) (rests_at 0 [] Starts (at_work Enters))) placed.node placed.named
+        subst (IsStep p) (sym (gives_start p (at_work Enters) placed))
         (record {
           shaped = record {
             placed = record {
@@ -136,14 +148,14 @@ module _ (p : Program) (runnable : IsRunnable p) where
                   labels = [];
                   has = record { shapes = valid.shapes; agrees = valid.agrees; has = valid.agrees.begins };
                   entered = tt;
-                  offered = subst (HasOffers p []) (sym at.empty.no_offers) tt;
+                  offered = subst (HasOffers p []) (sym placed.holds.empty.no_offers) tt;
                 };
               };
             };
             stored = is;
           };
           tape = tape;
-        }))
+        })
 
     -- ---- behind an event
 
@@ -164,7 +176,8 @@ module _ (p : Program) (runnable : IsRunnable p) where
     abbrev after_answer : List ℕ → State
     after_answer rest = with_answers rest st
 
-    answered_step : (offers : List Offer) (n : CodeNode) → code_titled here.node p.nodes ≡ Some n → IsAtOptions p n offers (at_work (Rests (Options offers))) → (number : ℕ) (rest : List ℕ) →
+    answered_step : (offers : List Offer) (n : CodeNode) → code_titled here.node p.nodes ≡ Some n →
+        IsAtOptions p n offers (at_work (Rests (Options offers))) → (number : ℕ) (rest : List ℕ) →
         IsStep p (answered p offers number (with_state (after_answer rest) (at_work (Rests (Options offers)))))
     answered_step offers n named at number rest = by_test (chooses number (choices offers)) refl
       where
@@ -246,7 +259,8 @@ module _ (p : Program) (runnable : IsRunnable p) where
 
     -- ---- a question
 
-    taken_step : (name : List ℕ) (args : List V.Value) (n : CodeNode) → code_titled here.node p.nodes ≡ Some n → IsAtCall p n name args (at_work (Asks name args)) → (v : V.Value) (rest : Tape) →
+    taken_step : (name : List ℕ) (args : List V.Value) (n : CodeNode) → code_titled here.node p.nodes ≡ Some n →
+        IsAtCall p n name args (at_work (Asks name args)) → (v : V.Value) (rest : Tape) →
         NumberFits v → TapeFits rest → IsStep p (takes_reply p name v (with_state (with_tape rest st) (at_work (Asks name args))))
     taken_step name args n named at v rest fit left = by_test (is_reply_of (signature_named p.functions name) v) refl
       where
@@ -297,12 +311,14 @@ module _ (p : Program) (runnable : IsRunnable p) where
     as_asked : (name : List ℕ) (args : List V.Value) → IsPlaced p (Asks name args) (at_work (Asks name args)) → IsGood p (at_work (Asks name args))
     as_asked name args placed = record { shaped = record { placed = placed; stored = is }; tape = tape }
 
-    asks_step : (name : List ℕ) (args : List V.Value) (t : Tape) → TapeFits t → IsPlaced p (Asks name args) (at_work (Asks name args)) → IsStep p (asks p name args t (at_work (Asks name args)))
+    asks_step : (name : List ℕ) (args : List V.Value) (t : Tape) → TapeFits t → IsPlaced p (Asks name args) (at_work (Asks name args)) →
+        IsStep p (asks p name args t (at_work (Asks name args)))
     asks_step name args [] fit placed = as_asked name args placed
     asks_step name args (r ∷ t) fit placed = by_test (same_text r.name name && same_values r.args args)
       where
         by_test : (b : Bool) →
-            IsStep p (if b then takes_reply p name r.value (with_state (with_tape t st) (at_work (Asks name args))) else StandsAt (moments.Asks name args) (at_work (Asks name args)))
+            IsStep p (if b then takes_reply p name r.value (with_state (with_tape t st) (at_work (Asks name args)))
+            else StandsAt (moments.Asks name args) (at_work (Asks name args)))
         by_test true = taken_step name args placed.node placed.named placed.holds r.value t fit.0 fit.1
         by_test false = as_asked name args placed
 
@@ -324,6 +340,9 @@ steps p w runnable good = step_of p runnable w.here w.place w.stack w.pending w.
 
 pub begins : Begins
 begins p start st there is tape = record {
-  shaped = record { placed = record { node = there.node; named = there.named; holds = record { first = refl; empty = record { no_entries = refl; no_offers = refl } } }; stored = is };
+  shaped = record {
+    placed = record { node = there.node; named = there.named; holds = record { first = refl; empty = record { no_entries = refl; no_offers = refl } } };
+    stored = is;
+  };
   tape = tape;
 }

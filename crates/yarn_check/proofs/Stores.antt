@@ -29,7 +29,8 @@ module _ (name : List ℕ) (value : Value) where
   put_same [] = rw (same_names name name refl) refl
   put_same (p ∷ ps) = by_test (put_same ps) (same_name name p.0) refl
     where
-      by_test : value_under (put ps name value) name ≡ Some value → (b : Bool) → same_name name p.0 ≡ b → value_under (put (p ∷ ps) name value) name ≡ Some value
+      by_test : value_under (put ps name value) name ≡ Some value → (b : Bool) → same_name name p.0 ≡ b →
+          value_under (put (p ∷ ps) name value) name ≡ Some value
       by_test later true is = rw (is, is) refl
       by_test later false is = rw (is, is) later
 
@@ -39,7 +40,8 @@ module _ (name : List ℕ) (value : Value) where
     put_other [] = rw apart refl
     put_other (p ∷ ps) = by_test (put_other ps) (same_name name p.0) refl
       where
-        by_test : value_under (put ps name value) other ≡ value_under ps other → (b : Bool) → same_name name p.0 ≡ b → value_under (put (p ∷ ps) name value) other ≡ value_under (p ∷ ps) other
+        by_test : value_under (put ps name value) other ≡ value_under ps other → (b : Bool) → same_name name p.0 ≡ b →
+            value_under (put (p ∷ ps) name value) other ≡ value_under (p ∷ ps) other
         by_test later true is =
             let differs : same_name other p.0 ≡ false = ap (same_name other) (sym (names_same name p.0 is)) ∙ apart in
             rw (is, differs) refl
@@ -57,12 +59,14 @@ module _ (name : List ℕ) (value : Value) where
 
 -- ---- the variables of a program
 
-held_kind : (variables : Pairs) (store : Pairs) (name : List ℕ) (k : Kind) → Holds variables store → option_map kind_of (value_under variables name) ≡ Some k → HasKind store name k
+held_kind : (variables : Pairs) (store : Pairs) (name : List ℕ) (k : Kind) → Holds variables store →
+    option_map kind_of (value_under variables name) ≡ Some k → HasKind store name k
 held_kind [] store name k holds is = absurd cc
 held_kind (v ∷ vs) store name k holds is =
     by_test (held_kind vs store name k (All-tail (λ (v : Pair). HasKind store v.0 (kind_of v.1)) v vs holds)) (same_name name v.0) refl is
   where
-    by_test : (option_map kind_of (value_under vs name) ≡ Some k → HasKind store name k) → (b : Bool) → same_name name v.0 ≡ b → option_map kind_of (if b then Some v.1 else value_under vs name) ≡ Some k → HasKind store name k
+    by_test : (option_map kind_of (value_under vs name) ≡ Some k → HasKind store name k) → (b : Bool) → same_name name v.0 ≡ b →
+        option_map kind_of (if b then Some v.1 else value_under vs name) ≡ Some k → HasKind store name k
     by_test later true same h =
         let here = All-head (λ (v : Pair). HasKind store v.0 (kind_of v.1)) v vs holds in
         ap (λ x. option_map kind_of (value_under store x)) (names_same name v.0 same) ∙ here ∙ h

@@ -14,7 +14,7 @@ use Rattle.yarn_code.specs.Machine.{Stepped, Quiet, Shows, Finishes, StandsAt, S
 use Rattle.yarn_check.specs.Shaped.{IsPlaced, Shaped}
 use Rattle.yarn_check.specs.Laws.{IsRunnable, TapeFits, IsStep, NeverStuck, HasInput, MakesStep, StepsOn, TakesReply, Closes, NoneOpen}
 use Rattle.yarn_check.proofs.Acts.{IsAct}
-use Rattle.yarn_check.proofs.Steps.{entering, emptied, acting, run_act, steps}
+use Rattle.yarn_check.proofs.Steps.{gives_start, emptied, acting, run_act, steps}
 
 pub never_stuck : NeverStuck
 never_stuck p w runnable good is = subst (IsStep p) is (steps p w runnable good)
@@ -56,7 +56,8 @@ module _ (p : Program) (runnable : IsRunnable p) (here : Here) (place : ℕ) (st
   act_makes n (StandsAt stand w) h = absurd h
   act_makes n Stuck h = absurd h
 
-  in_its_node : (f : CodeNode → Stepped) (n : CodeNode) → code_titled here.node p.nodes ≡ Some n → MakesStep (f n) → MakesStep (when_some (code_titled here.node p.nodes) Stuck f)
+  in_its_node : (f : CodeNode → Stepped) (n : CodeNode) → code_titled here.node p.nodes ≡ Some n → MakesStep (f n) →
+      MakesStep (when_some (code_titled here.node p.nodes) Stuck f)
   in_its_node f n named h = subst (λ o. MakesStep (when_some o Stuck f)) (sym named) h
 
   waits_makes : (offers : List Offer) → IsPlaced p (Rests (Options offers)) (at_work (Rests (Options offers))) → IsTrue (is_some (answer_of st.answers)) →
@@ -93,10 +94,7 @@ module _ (p : Program) (runnable : IsRunnable p) (here : Here) (place : ℕ) (st
       in_its_node (acting p runnable here place stack pending Runs st shaped.stored tape) n shaped.placed.named
       (act_makes n (acting p runnable here place stack pending Runs st shaped.stored tape n)
       (run_act p runnable here place stack pending Runs st shaped.stored tape n shaped.placed.named shaped.placed.holds))
-  makes Enters shaped tape input =
-      let at = shaped.placed.holds in
-      subst MakesStep (sym (entering place stack pending (in_node p (at_work Enters) (λ n. Shows (event.NodeStart here.node) (rests_at 0 [] Starts (at_work Enters)))) at.first at.empty.no_entries at.empty.no_offers))
-      (in_its_node (λ n. Shows (event.NodeStart here.node) (rests_at 0 [] Starts (at_work Enters))) shaped.placed.node shaped.placed.named tt)
+  makes Enters shaped tape input = subst MakesStep (sym (gives_start p (at_work Enters) shaped.placed)) tt
   makes (Rests Starts) shaped tape input = tt
   makes (Rests (Line id values)) shaped tape input = tt
   makes (Rests (Command text)) shaped tape input = tt

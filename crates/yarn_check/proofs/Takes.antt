@@ -15,7 +15,8 @@ use Rattle.yarn_check.specs.Shaped.{IsOf, AreOf, HasEntries}
 use Rattle.yarn_check.proofs.SameKinds.{kind_same}
 
 module _ {R : Type 0} (P : R → Type 0) (stuck : R) (goals : List Goal) where
-  pub values_taken : (count : ℕ) (ks : List Kind) (vs : List V.Value) (es : List ShapeEntry) (stack : Stack) (go : List Kind → List ShapeEntry → Flow) (f : List V.Value → Stack → R) →
+  pub values_taken : (count : ℕ) (ks : List Kind) (vs : List V.Value) (es : List ShapeEntry) (stack : Stack) (go : List Kind → List ShapeEntry → Flow)
+      (f : List V.Value → Stack → R) →
       AreOf ks vs → HasEntries es stack → take_kinds count ks es go ≡ Some goals →
       ((ks1 : List Kind) (vs1 : List V.Value) (es1 : List ShapeEntry) (stack1 : Stack) →
       AreOf ks1 vs1 → length vs1 ≡ count + length vs → HasEntries es1 stack1 → go ks1 es1 ≡ Some goals → P (f vs1 stack1)) →
