@@ -18,3 +18,4 @@ pub mod Stuck
 pub mod Comes
 pub mod Outcomes
 pub mod Rebuilding
+pub mod Beginnings

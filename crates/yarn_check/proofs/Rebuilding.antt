@@ -55,7 +55,7 @@ module _ (p : Program) where
       let reached = one_of (IsReached n st.has.shapes behind.before) (goal (behind.before + 1) (shape left.0 [])) [] runs.goals left.1 runs.reached in
       let here : HasShape st.has.shapes place (shape left.0 []) = subst (λ k. HasShape st.has.shapes k (shape left.0 [])) (sym behind.next) reached.has in
       let there : HasShape at.shapes place (shape left.0 []) =
-          subst (λ all. HasShape all place (shape left.0 [])) (one_shapes p n st.has.shapes at.shapes st.has.agrees at.agrees) here in
+      subst (λ all. HasShape all place (shape left.0 [])) (one_shapes p n st.has.shapes at.shapes st.has.agrees at.agrees) here in
       let both : Some (Some sh) ≡ Some (Some (shape left.0 [])) = sym at.has ∙ there in
       let same : sh ≡ shape left.0 [] = cc in
       ap (λ x. x.pending) same

@@ -15,10 +15,10 @@ use Rattle.yarn_check.specs.Shapes.{kind_under}
 use Rattle.yarn_check.specs.Shaped.{StoreFits, IsOf, IsStored}
 use Rattle.yarn_check.proofs.Builtins.{FitsIf, under_fits}
 
-names_same : (a b : List ℕ) → same_name a b ≡ true → a ≡ b
+pub names_same : (a b : List ℕ) → same_name a b ≡ true → a ≡ b
 names_same a b h = (bytes_eq-Decides a b).0 h
 
-same_names : (a b : List ℕ) → a ≡ b → same_name a b ≡ true
+pub same_names : (a b : List ℕ) → a ≡ b → same_name a b ≡ true
 same_names a b e = (bytes_eq-Decides a b).1 e
 
 -- ---- the value of a name behind a put
