@@ -1,5 +1,5 @@
 -- No shaped state is stuck, and what it waits for is taken.
-use Rattle.std.proofs.Common.{◌≡◌, ℕ, ◌-◌, List, [], ◌∷◌, Bool, true, false, if◌then◌else◌, Option, Some, None, is_some, IsTrue, refl, sym, ap, ◌∙◌, subst, arith}
+use Rattle.std.proofs.Common.{◌≡◌, ℕ, ◌-◌, List, ◌∷◌, Bool, true, false, if◌then◌else◌, Option, Some, None, is_some, IsTrue, refl, sym, ap, ◌∙◌, subst, arith}
 use Rattle.yarn_value.specs.declared.fault.RunFault.TheVariants as fault
 use Rattle.yarn_code.specs.declared.event.Event.TheVariants as event
 use Rattle.yarn_code.specs.declared.program.CodeNode.{CodeNode}
@@ -9,8 +9,8 @@ use Rattle.yarn_code.specs.Answers.{chooses, any_open, less_one, at_answer}
 use Rattle.yarn_code.specs.Moments.{State, with_answers}
 use Rattle.yarn_code.specs.Moments as moments
 use Rattle.yarn_code.specs.Parts.{code_titled, line_of, line_at}
-use Rattle.yarn_code.specs.MachineState.{Stack, Offer, choices, Stop, To, Line, Options, Command, Starts, Ends, Doing, Runs, Enters, Rests, Asks, Over, Destination, Here, moved_to, MachineState, machine, rests_at, enters, with_state}
-use Rattle.yarn_code.specs.Machine.{Stepped, Quiet, Shows, Finishes, StandsAt, Stuck, when_some, label_at, breaks, in_node, enters_to, leaves, closed, answered, step, next}
+use Rattle.yarn_code.specs.MachineState.{Stack, Offer, choices, Stop, To, Line, Options, Command, Starts, Ends, Doing, Runs, Enters, Rests, Asks, Over, Destination, Here, moved_to, MachineState, machine, enters, with_state}
+use Rattle.yarn_code.specs.Machine.{Stepped, Quiet, Shows, Finishes, StandsAt, Stuck, when_some, label_at, breaks, enters_to, leaves, closed, answered, step, next}
 use Rattle.yarn_check.specs.Shaped.{IsPlaced, Shaped}
 use Rattle.yarn_check.specs.Laws.{IsRunnable, TapeFits, IsStep, NeverStuck, HasInput, MakesStep, StepsOn, TakesReply, Closes, NoneOpen}
 use Rattle.yarn_check.proofs.Acts.{IsAct}
