@@ -7,7 +7,7 @@ use Rattle.yarn_code.specs.declared.program.Instr.{Instr}
 use Rattle.yarn_code.specs.declared.program.Instr.TheVariants as code
 use Rattle.yarn_code.specs.declared.program.CodeNode.{CodeNode}
 use Rattle.yarn_code.specs.declared.program.Program.{Program}
-use Rattle.yarn_code.specs.MachineState.{Stack, Offer, Leave, Stop, To, Rest, Line, Options, Command, Starts, Ends, Doing, Rests, here_in, MachineState, machine}
+use Rattle.yarn_code.specs.MachineState.{Stack, Offer, Stop, To, Rest, Line, Options, Command, Starts, Ends, Rests, here_in, MachineState, machine}
 use Rattle.yarn_check.specs.Shapes as shapes
 use Rattle.yarn_check.specs.Shapes.{ShapeEntry, Shape, shape}
 use Rattle.yarn_check.specs.Shaped.{AreFitting, HasEntries, HasOffers, HasShapeAt, Stands, Behind, IsIn, IsStored}
