@@ -233,12 +233,14 @@ module _ (p : Program) where
       )
 
 pub rebuilds_shaped : RebuildsShaped
-rebuilds_shaped p parts answers tape runnable fits = record { placed = rebuilds p runnable parts (rebuilt parts answers tape).state parts.rest fits.rests; stored = fits.stored }
+rebuilds_shaped p parts answers tape runnable fits stored =
+    record { placed = rebuilds p runnable parts (rebuilt parts answers tape).state parts.rest fits; stored = stored }
 
 pub parts_fit : PartsFit
 parts_fit p w rest runnable shaped is =
     let it = whole p rest w (subst (λ d. IsPlaced p d w) is shaped.placed) in
     record {
-      fits = record { rests = it.0; stored = shaped.stored };
+      fits = it.0;
+      stored = shaped.stored;
       again = ap (λ os. machine w.here w.place w.stack os (Rests rest) w.state) (sym it.1) ∙ ap (λ d. machine w.here w.place w.stack w.pending d w.state) (sym is);
     }

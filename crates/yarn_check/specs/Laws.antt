@@ -170,7 +170,7 @@ ComesSoon = (p : Program) (w : MachineState) (n : CodeNode) → IsRunnable p →
 
 -- ---- runs
 
--- from a state there is one outcome of so many events, for each number of events
+-- from a state there is one outcome of k + 1 events, for each k
 pub record HasOutcome (p : Program) (w : MachineState) (k : ℕ) : Type 0 where
   pub outcome : Ran
   pub first : Reaches p w k outcome
@@ -181,13 +181,14 @@ HaveOutcomes = (p : Program) (w : MachineState) (k : ℕ) → IsRunnable p → I
 
 -- ---- states as plain data
 
--- a state whose parts fit is shaped
+-- a state whose parts fit, and which has the variables of the program, is shaped
 abbrev pub RebuildsShaped : Type 0
-RebuildsShaped = (p : Program) (s : Parts) (answers : List ℕ) (tape : Tape) → IsRunnable p → Fits p s → Shaped p (rebuilt s answers tape)
+RebuildsShaped = (p : Program) (s : Parts) (answers : List ℕ) (tape : Tape) → IsRunnable p → Fits p s → IsStored p s.store → Shaped p (rebuilt s answers tape)
 
--- a shaped state that rests fits, and is that of its parts
+-- a shaped state that rests fits, has the variables, and is that of its parts
 pub record IsOfParts (p : Program) (rest : Rest) (w : MachineState) : Type 0 where
   pub fits : Fits p (parts_of rest w)
+  pub stored : IsStored p w.state.store
   pub again : rebuilt (parts_of rest w) w.state.answers w.state.tape ≡ w
 
 abbrev pub PartsFit : Type 0
