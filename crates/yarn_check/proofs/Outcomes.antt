@@ -8,7 +8,7 @@ use Rattle.yarn_code.specs.Moments as moments
 use Rattle.yarn_code.specs.Parts.{code_titled}
 use Rattle.yarn_code.specs.MachineState.{Stack, Offer, Starts, Doing, Runs, Enters, Rests, Asks, Over, Here, MachineState, machine, rests_at}
 use Rattle.yarn_code.specs.Machine.{Stepped, Quiet, Shows, Finishes, StandsAt, Stuck, when_some, when_empty, in_node, step, next}
-use Rattle.yarn_code.specs.Runs.{Ran, ran, with_first, with_count, ticks, follow, run, Reaches}
+use Rattle.yarn_code.specs.Runs.{Course, ran, with_first, with_count, ticks, follow, run, Reaches}
 use Rattle.yarn_check.specs.Shaped.{IsPlaced}
 use Rattle.yarn_check.specs.Laws.{IsRunnable, IsGood, IsStep, HaveOutcomes}
 use Rattle.yarn_check.proofs.Acts.{Goes, IsAct}
@@ -17,15 +17,15 @@ use Rattle.yarn_check.proofs.Comes.{within, OnQuiet, some_quiet, first_quiet, em
 
 -- ---- there is only one
 
-abbrev BothSame : Option Ran → Option Ran → Type 0
-BothSame r s = (x y : Ran) → r ≡ Some x → s ≡ Some y → x ≡ y
+abbrev BothSame : Option Course → Option Course → Type 0
+BothSame r s = (x y : Course) → r ≡ Some x → s ≡ Some y → x ≡ y
 
-first_same : (m : Moment) (r s : Option Ran) → BothSame r s → BothSame (with_first m r) (with_first m s)
+first_same : (m : Moment) (r s : Option Course) → BothSame r s → BothSame (with_first m r) (with_first m s)
 first_same m (Some x) (Some y) same = λ o q h g. let e = same x y refl refl in cc
 first_same m (Some x) None same = λ o q h g. absurd cc
 first_same m None s same = λ o q h g. absurd cc
 
-count_same : (n : ℕ) (r s : Option Ran) → BothSame r s → BothSame (with_count n r) (with_count n s)
+count_same : (n : ℕ) (r s : Option Course) → BothSame r s → BothSame (with_count n r) (with_count n s)
 count_same n (Some x) (Some y) same = λ o q h g. let e = same x y refl refl in cc
 count_same n (Some x) None same = λ o q h g. absurd cc
 count_same n None s same = λ o q h g. absurd cc
@@ -48,21 +48,21 @@ module _ (p : Program) where
   -- ---- there is one
 
   abbrev Exists : MachineState → ℕ → Type 0
-  Exists w k = (r : Ran) × Reaches p w k r
+  Exists w k = (r : Course) × Reaches p w k r
 
   -- what is to be there behind an event
   abbrev Before : ℕ → MachineState → Type 0
   Before zero w = Unit {0}
   Before (suc k) w = Exists w k
 
-  abbrev counted : ℕ → Ran → Ran
+  abbrev counted : ℕ → Course → Course
   counted n r = record r { count = n + r.count }
 
-  abbrev behind : Moment → Ran → Ran
+  abbrev behind : Moment → Course → Course
   behind m r = record r { moments = m ∷ r.moments }
 
   -- by the step, and what follows it
-  by_step : (k : ℕ) (w : MachineState) (x : Stepped) → next p w ≡ x → (most : ℕ) (r : Ran) → follow (run p most) x k ≡ Some r → Exists w k
+  by_step : (k : ℕ) (w : MachineState) (x : Stepped) → next p w ≡ x → (most : ℕ) (r : Course) → follow (run p most) x k ≡ Some r → Exists w k
   by_step k w x is most r h =
       (counted (ticks w.doing) r, record { steps = suc most; runs = ap (with_count (ticks w.doing)) (subst (λ y. follow (run p most) y k ≡ Some r) (sym is) h) })
 

@@ -21,7 +21,7 @@ use Rattle.yarn_code.specs.Fields.{IsFitting, HasFields}
 use Rattle.yarn_code.specs.MachineState as machine
 use Rattle.yarn_code.specs.MachineState.{Offer, choices, Rest, Line, Options, Command, Starts, Ends, Doing, Runs, Enters, Rests, Asks, Over, MachineState, runs_at, with_state, begun, entry}
 use Rattle.yarn_code.specs.Machine.{Stepped, Quiet, Shows, Finishes, StandsAt, Stuck, next, breaks}
-use Rattle.yarn_code.specs.Runs.{Ran, Reaches}
+use Rattle.yarn_code.specs.Runs.{Course, Reaches}
 use Rattle.yarn_check.specs.Shapes.{Shapes, Agrees, IsValid}
 use Rattle.yarn_check.specs.Shaped.{StoreFits, IsStored, IsIn, Shaped}
 use Rattle.yarn_check.specs.Fits.{Parts, Fits, rebuilt, parts_of}
@@ -172,9 +172,9 @@ ComesSoon = (p : Program) (w : MachineState) (n : CodeNode) → IsRunnable p →
 
 -- from a state there is one outcome of k + 1 events, for each k
 pub record HasOutcome (p : Program) (w : MachineState) (k : ℕ) : Type 0 where
-  pub outcome : Ran
+  pub outcome : Course
   pub first : Reaches p w k outcome
-  pub alone : (r : Ran) → Reaches p w k r → r ≡ outcome
+  pub alone : (r : Course) → Reaches p w k r → r ≡ outcome
 
 abbrev pub HaveOutcomes : Type 0
 HaveOutcomes = (p : Program) (w : MachineState) (k : ℕ) → IsRunnable p → IsGood p w → HasOutcome p w k
