@@ -67,8 +67,12 @@ module _ (R : ℕ → Behaviour → Behaviour → Type 0) (none : (b c : Behavio
       halts = λ line halt st. stood (suc n) (halts_at piece.node line halt) st;
     }
 
+    -- what follows statements of a piece
+    pub related_behind : (piece : Piece) (d : Done) → R (suc n) (after d (exits_of files go piece)) (after d (exits_of files later piece))
+    related_behind piece d = related_after (suc n) _ _ (related_exits piece) d
+
     related_piece : (functions : List Signature) (piece : Piece) (st : State) → R (suc n) (in_piece functions files go piece st) (in_piece functions files later piece st)
-    related_piece functions piece st = related_after (suc n) _ _ (related_exits piece) (does_all (scope_of functions piece) piece.node.node.body st)
+    related_piece functions piece st = related_behind piece (does_all (scope_of functions piece) piece.node.node.body st)
 
   pub related_from : (functions : List Signature) (files : List FileTree) (n : ℕ) (piece : Piece) (st : State) →
       R n (from functions files n piece st) (from functions files (suc n) piece st)

@@ -13,51 +13,22 @@ use Rattle.yarn_code.specs.declared.event.Event.TheVariants as event
 use Rattle.yarn_code.specs.declared.event.Choice.{Choice}
 use Rattle.yarn_code.specs.Moments.{State, Moment, moment, emit, with_answers}
 use Rattle.yarn_value.specs.Pairs.{Pairs}
-use Rattle.yarn_meaning.specs.Does.{Exit, Through, Jumps, Stops, Halted, Waiting, Done, done, prefixed, showing, goes_on, and_on, picked, waits, group_line, does, does_all, does_option}
+use Rattle.yarn_meaning.specs.Does.{Waiting, Done, done, showing, and_on, picked, waits, group_line, does_all, does_option}
 use Rattle.yarn_code.specs.Answers.{is_open, chooses, less_one, at_answer, any_open}
-use Rattle.yarn_meaning.specs.First.{Placed, after, exits_of, in_body, from}
+use Rattle.yarn_meaning.specs.First.{Placed, after, exits_of, from}
 use Rattle.yarn_meaning.specs.Texts.{Table, Tells, TellsAll, said_in, said_in_options}
 use Rattle.yarn_walker.specs.declared.offer.Offer.{Offer}
 use Rattle.yarn_walker.specs.Offers.{all_shown, texts_of, AreOf}
-use Rattle.yarn_walker.specs.States.{at}
-use Rattle.yarn_walker.specs.Walk.{at_group, Opens}
+use Rattle.yarn_walker.specs.States.{at, no_hosts}
+use Rattle.yarn_walker.specs.Walk.{piece_of, in_body, at_group, Opens}
+use Rattle.yarn_walker.proofs.DeedLemmas.{prefixed_then, body_then}
 use Rattle.yarn_walker.proofs.FuelLemmas.{emit_after}
 use Rattle.yarn_walker.proofs.TurnLemmas.{All-front, All-behind}
 
 -- ---- one after the other
 
-goes_prefixed : (ms : List Moment) (x : Exit) (more : List Moment) (st : State) (next : State → Done) →
-    goes_on x (ms ++ more) st next ≡ prefixed ms (goes_on x more st next)
-goes_prefixed ms Through more st next = ap (λ l. record { moments = l; exit = (next st).exit; state = (next st).state }) (append_assoc ms more (next st).moments)
-goes_prefixed ms (Jumps line title) more st next = refl
-goes_prefixed ms (Stops line) more st next = refl
-goes_prefixed ms (Halted line halt) more st next = refl
-goes_prefixed ms Waiting more st next = refl
-
-goes_twice : (x : Exit) (ms : List Moment) (st : State) (f g : State → Done) →
-    and_on (goes_on x ms st f) g ≡ goes_on x ms st (λ st1. and_on (f st1) g)
-goes_twice Through ms st f g = goes_prefixed ms (f st).exit (f st).moments (f st).state g
-goes_twice (Jumps line title) ms st f g = refl
-goes_twice (Stops line) ms st f g = refl
-goes_twice (Halted line halt) ms st f g = refl
-goes_twice Waiting ms st f g = refl
-
-goes_same : (x : Exit) (ms : List Moment) (st : State) (f g : State → Done) → ((st1 : State) → f st1 ≡ g st1) → goes_on x ms st f ≡ goes_on x ms st g
-goes_same Through ms st f g same = ap (prefixed ms) (same st)
-goes_same (Jumps line title) ms st f g same = refl
-goes_same (Stops line) ms st f g same = refl
-goes_same (Halted line halt) ms st f g same = refl
-goes_same Waiting ms st f g same = refl
-
--- a list that stands before another is done before it
-pub does_then : (a b : Stmts) (st : State) → does_all [] (stmts_then a b) st ≡ and_on (does_all [] a st) (λ st1. does_all [] b st1)
-does_then Nil b st = refl
-does_then (Cons s a) b st =
-    let d : Done = does [] s st in
-    goes_same d.exit d.moments d.state _ _ (does_then a b) ∙ sym (goes_twice d.exit d.moments d.state (λ st1. does_all [] a st1) (λ st1. does_all [] b st1))
-
-pub shown_on : (e : Event) (st : State) (d : Done) (next : State → Done) → and_on (showing e st d) next ≡ showing e st (and_on d next)
-shown_on e st d next = goes_prefixed (moment e st ∷ []) d.exit d.moments d.state next
+pub shown_on : (e : Event) (st : State) (d : Done) (b : Stmts) (next : State → Done) → and_on (showing e st d) b next ≡ showing e st (and_on d b next)
+shown_on e st d b next = prefixed_then (moment e st ∷ []) d b next
 
 -- ---- more room than the answers take
 
@@ -135,27 +106,27 @@ module _ (cs : List Choice) (store : Pairs) (next : ℕ → State → Done) (num
 module _ (files : List FileTree) (n : Placed) (os : Options) (cs : List Choice) (rest : Stmts) (store : Pairs) (number : ℕ) (bytes left : List ℕ) where
   -- where an option is chosen, its body is done before the statements behind the group
   pub chosen_comes : (body : Stmts) → any_open cs ≡ true → chooses number cs ≡ true →
-      ((st : State) → does_option [] os (less_one number) st ≡ does_all [] body st) →
+      ((st : State) → does_option no_hosts os (less_one number) st ≡ does_all no_hosts body st) →
       answer_of bytes ≡ Some (record { number = number; rest = left }) → (k : ℕ) →
-      at_group files k n os cs rest (at store bytes) k ≡ in_body [] (from [] files k) n (stmts_then body rest) (at store left) k
+      at_group files k n os cs rest (at store bytes) k ≡ in_body files k n (stmts_then body rest) (at store left) k
   chosen_comes body asks chosen is_body is k =
-      ap (λ d. after (and_on d (λ st1. does_all [] rest st1)) (exits_of (from [] files k) n) k)
+      ap (λ d. after (and_on d rest (λ st1. does_all no_hosts rest st1)) (exits_of files (from [] files k) (piece_of n)) k)
       (waits_open (group_line os) cs (at store bytes) _ asks
-      ∙ picked_chosen cs store (λ m st. does_option [] os m st) number left bytes is chosen ∙ is_body (at store left))
-      ∙ ap (λ d. after d (exits_of (from [] files k) n) k) (sym (does_then body rest (at store left)))
+      ∙ picked_chosen cs store (λ m st. does_option no_hosts os m st) number left bytes is chosen ∙ is_body (at store left))
+      ∙ ap (λ d. after d (exits_of files (from [] files k) (piece_of n)) k) (sym (body_then body rest (at store left)))
 
   -- where none is chosen, that is an event, and the group is asked again
   pub rejected_comes : any_open cs ≡ true → chooses number cs ≡ false →
       answer_of bytes ≡ Some (record { number = number; rest = left }) → (k : ℕ) →
       at_group files k n os cs rest (at store bytes) k ≡ emit (moment event.Rejected (at store left)) (λ j. at_group files j n os cs rest (at store left) j) k
   rejected_comes asks rejected is k =
-      let next : ℕ → State → Done = λ m st. does_option [] os m st in
+      let next : ℕ → State → Done = λ m st. does_option no_hosts os m st in
       let waiting : Done = waits (group_line os) cs (at store left) next in
-      ap (λ d. after (and_on d (λ st1. does_all [] rest st1)) (exits_of (from [] files k) n) k)
+      ap (λ d. after (and_on d rest (λ st1. does_all no_hosts rest st1)) (exits_of files (from [] files k) (piece_of n)) k)
       (waits_open (group_line os) cs (at store bytes) next asks ∙ picked_rejected cs store next number left bytes is rejected
       ∙ ap (showing event.Rejected (at store left)) (sym (waits_open (group_line os) cs (at store left) next asks)))
-      ∙ ap (λ d. after d (exits_of (from [] files k) n) k) (shown_on event.Rejected (at store left) waiting (λ st1. does_all [] rest st1))
-      ∙ emit_after files n (moment event.Rejected (at store left)) (and_on waiting (λ st1. does_all [] rest st1)) k
+      ∙ ap (λ d. after d (exits_of files (from [] files k) (piece_of n)) k) (shown_on event.Rejected (at store left) waiting rest (λ st1. does_all no_hosts rest st1))
+      ∙ emit_after files n (moment event.Rejected (at store left)) (and_on waiting rest (λ st1. does_all no_hosts rest st1)) k
 
 -- ---- the option that an answer chooses
 
@@ -170,7 +141,7 @@ all_shown-at (o ∷ offers) zero d there = refl
 all_shown-at (o ∷ offers) (suc at) d there = all_shown-at offers at d (omega arith)
 
 option_at : (options : List OptionItem) (at : ℕ) (d : OptionItem) → at < length options → (st : State) →
-    does_option [] (options_of options) at st ≡ does_all [] (stmts_of (get_or options at d).body) st
+    does_option no_hosts (options_of options) at st ≡ does_all no_hosts (stmts_of (get_or options at d).body) st
 option_at [] at d there st = absurd (omega arith)
 option_at (o ∷ options) zero d there st = refl
 option_at (o ∷ options) (suc at) d there st = option_at options at d (omega arith) st

@@ -16,7 +16,7 @@ use Rattle.yarn_meaning.specs.Eval.{eval}
 use Rattle.yarn_value.specs.Evaluation.{Evaluated, Gives, Halts, and_then}
 use Rattle.yarn_meaning.specs.Does.{Exit, Through, Jumps, Stops, Halted, Waiting, Done, done, prefixed, goes_on, and_on, showing, using, waits, group_line, title_in, does, does_all, does_option, does_clauses, does_last}
 use Rattle.yarn_meaning.specs.Texts.{Table, Tells, TellsAll, said_in, said_in_one, said_in_options, said_in_clauses, said_in_last}
-use Rattle.yarn_walker.specs.States.{at}
+use Rattle.yarn_walker.specs.States.{at, no_hosts}
 use Rattle.yarn_walker.specs.Weight.{weight, weight_clauses, weight_last}
 use Rattle.yarn_walker.specs.Clauses.{Chooses, IsBodyOf, else_body}
 use Rattle.yarn_walker.specs.Offers.{all_shown, texts_of, AreOf, Offers}
@@ -28,32 +28,33 @@ use Rattle.yarn_walker.specs.declared.halt.Halt.TheVariants as halt
 
 -- ---- one list behind another
 
-goes_on_prefixed : (x : Exit) (ms ns : List Moment) (st : State) (next : State → Done) → goes_on x (ms ++ ns) st next ≡ prefixed ms (goes_on x ns st next)
-goes_on_prefixed Through ms ns st next =
+goes_on_prefixed : (x : Exit) (ms ns : List Moment) (st : State) (b : Stmts) (next : State → Done) →
+    goes_on x (ms ++ ns) st b next ≡ prefixed ms (goes_on x ns st b next)
+goes_on_prefixed Through ms ns st b next =
     ap (λ l. record { moments = l; exit = (next st).exit; state = (next st).state }) (append_assoc ms ns (next st).moments)
-goes_on_prefixed (Jumps line title) ms ns st next = refl
-goes_on_prefixed (Stops line) ms ns st next = refl
-goes_on_prefixed (Halted line halt) ms ns st next = refl
-goes_on_prefixed Waiting ms ns st next = refl
+goes_on_prefixed (Jumps line title) ms ns st b next = refl
+goes_on_prefixed (Stops line) ms ns st b next = refl
+goes_on_prefixed (Halted line halt) ms ns st b next = refl
+goes_on_prefixed Waiting ms ns st b next = refl
 
-pub prefixed_then : (ms : List Moment) (d : Done) (next : State → Done) → and_on (prefixed ms d) next ≡ prefixed ms (and_on d next)
-prefixed_then ms d next = goes_on_prefixed d.exit ms d.moments d.state next
+pub prefixed_then : (ms : List Moment) (d : Done) (b : Stmts) (next : State → Done) → and_on (prefixed ms d) b next ≡ prefixed ms (and_on d b next)
+prefixed_then ms d b next = goes_on_prefixed d.exit ms d.moments d.state b next
 
-goes_on_then : (x : Exit) (ms : List Moment) (st : State) (f g h : State → Done) →
-    ((s : State) → h s ≡ and_on (f s) g) → goes_on x ms st h ≡ and_on (goes_on x ms st f) g
-goes_on_then Through ms st f g h e = ap (prefixed ms) (e st) ∙ sym (prefixed_then ms (f st) g)
-goes_on_then (Jumps line title) ms st f g h e = refl
-goes_on_then (Stops line) ms st f g h e = refl
-goes_on_then (Halted line halt) ms st f g h e = refl
-goes_on_then Waiting ms st f g h e = refl
+goes_on_then : (x : Exit) (ms : List Moment) (st : State) (a b all : Stmts) (f g h : State → Done) →
+    ((s : State) → h s ≡ and_on (f s) b g) → goes_on x ms st all h ≡ and_on (goes_on x ms st a f) b g
+goes_on_then Through ms st a b all f g h e = ap (prefixed ms) (e st) ∙ sym (prefixed_then ms (f st) b g)
+goes_on_then (Jumps line title) ms st a b all f g h e = refl
+goes_on_then (Stops line) ms st a b all f g h e = refl
+goes_on_then (Halted line halt) ms st a b all f g h e = refl
+goes_on_then Waiting ms st a b all f g h e = refl
 
 -- a body with the statements behind it does what they do one after the other
-pub body_then : (body b : Stmts) (st : State) → does_all [] (stmts_then body b) st ≡ and_on (does_all [] body st) (λ st1. does_all [] b st1)
+pub body_then : (body b : Stmts) (st : State) → does_all no_hosts (stmts_then body b) st ≡ and_on (does_all no_hosts body st) b (λ st1. does_all no_hosts b st1)
 body_then Nil b st = refl
 body_then (Cons s a) b st =
-    let d : Done = does [] s st in
-    goes_on_then d.exit d.moments d.state (λ st1. does_all [] a st1) (λ st1. does_all [] b st1) (λ st1. does_all [] (stmts_then a b) st1)
-    (λ st1. body_then a b st1)
+    let d : Done = does no_hosts s st in
+    goes_on_then d.exit d.moments d.state a b (stmts_then a b) (λ st1. does_all no_hosts a st1) (λ st1. does_all no_hosts b st1)
+    (λ st1. does_all no_hosts (stmts_then a b) st1) (λ st1. body_then a b st1)
 
 weight_then : (body b : Stmts) → weight (stmts_then body b) ≡ weight body + weight b
 weight_then Nil b = omega arith
@@ -77,25 +78,25 @@ line_told table text b told = (All-head (Tells table) text (said_in b) told, All
 
 -- a line without substitutions is said
 pub plain_does : (text : LineText) (b : Stmts) (store : Pairs) → text.holes ≡ [] → (answers : List ℕ) →
-    does_all [] (Cons (Leaf (simple.Line text)) b) (at store answers) ≡ showing (event.Line text.id []) (at store answers) (does_all [] b (at store answers))
+    does_all no_hosts (Cons (Leaf (simple.Line text)) b) (at store answers) ≡ showing (event.Line text.id []) (at store answers) (does_all no_hosts b (at store answers))
 plain_does text b store plain answers = rw plain refl
 
 -- ---- a group
 
 pub group_does : (os : Options) (b : Stmts) (store : Pairs) (offers : Vec Offer Global) → Offers os store (Ok offers) → (answers : List ℕ) →
-    does_all [] (Cons (Group os) b) (at store answers)
+    does_all no_hosts (Cons (Group os) b) (at store answers)
     ≡ showing (event.Options (all_shown offers.items)) (at store answers)
-    (and_on (waits (group_line os) (all_shown offers.items) (at store answers) (λ n st1. does_option [] os n st1)) (λ st1. does_all [] b st1))
+    (and_on (waits (group_line os) (all_shown offers.items) (at store answers) (λ n st1. does_option no_hosts os n st1)) b (λ st1. does_all no_hosts b st1))
 group_does os b store offers means answers =
-    ap (λ d. and_on d (λ st1. does_all [] b st1))
-    (means answers (λ cs st1. showing (event.Options cs) st1 (waits (group_line os) cs st1 (λ n st2. does_option [] os n st2))))
+    ap (λ d. and_on d b (λ st1. does_all no_hosts b st1))
+    (means answers (λ cs st1. showing (event.Options cs) st1 (waits (group_line os) cs st1 (λ n st2. does_option no_hosts os n st2))))
     ∙ prefixed_then (moment (event.Options (all_shown offers.items)) (at store answers) ∷ [])
-    (waits (group_line os) (all_shown offers.items) (at store answers) (λ n st1. does_option [] os n st1)) (λ st1. does_all [] b st1)
+    (waits (group_line os) (all_shown offers.items) (at store answers) (λ n st1. does_option no_hosts os n st1)) b (λ st1. does_all no_hosts b st1)
 
 pub group_halts : (os : Options) (b : Stmts) (store : Pairs) (e : Halt) → Offers os store (Err e) → Does (Cons (Group os) b) store (Err e) b store
 group_halts os b store (halt.Fault line fault) means =
-    λ answers. ap (λ d. and_on d (λ st1. does_all [] b st1))
-    (means answers (λ cs st1. showing (event.Options cs) st1 (waits (group_line os) cs st1 (λ n st2. does_option [] os n st2))))
+    λ answers. ap (λ d. and_on d b (λ st1. does_all no_hosts b st1))
+    (means answers (λ cs st1. showing (event.Options cs) st1 (waits (group_line os) cs st1 (λ n st2. does_option no_hosts os n st2))))
 group_halts os b store halt.Memory means = tt
 
 texts_told : (table : Table) (os : Options) → TellsAll table (said_in_options os) → TellsAll table (texts_of os)
@@ -122,14 +123,14 @@ group_told table os b offers are told =
 -- ---- an `if`
 
 pub if_does : (cs : Clauses) (last : Last) (e : Head) (body b : Stmts) (store : Pairs) →
-    ((answers : List ℕ) → does_clauses [] cs (at store answers) (λ st. does_last [] last st) ≡ does_all [] body (at store answers)) →
-    (answers : List ℕ) → does_all [] (Cons (Choice cs last e) b) (at store answers) ≡ does_all [] (stmts_then body b) (at store answers)
+    ((answers : List ℕ) → does_clauses no_hosts cs (at store answers) (λ st. does_last no_hosts last st) ≡ does_all no_hosts body (at store answers)) →
+    (answers : List ℕ) → does_all no_hosts (Cons (Choice cs last e) b) (at store answers) ≡ does_all no_hosts (stmts_then body b) (at store answers)
 if_does cs last e body b store chosen answers =
-    ap (λ d. and_on d (λ st1. does_all [] b st1)) (chosen answers) ∙ sym (body_then body b (at store answers))
+    ap (λ d. and_on d b (λ st1. does_all no_hosts b st1)) (chosen answers) ∙ sym (body_then body b (at store answers))
 
 pub if_halts : (cs : Clauses) (last : Last) (end : Head) (b : Stmts) (store : Pairs) (e : Halt) → Chooses cs last store (Err e) →
     Does (Cons (Choice cs last end) b) store (Err e) b store
-if_halts cs last end b store (halt.Fault line fault) chosen = λ answers. ap (λ d. and_on d (λ st1. does_all [] b st1)) (chosen answers)
+if_halts cs last end b store (halt.Fault line fault) chosen = λ answers. ap (λ d. and_on d b (λ st1. does_all no_hosts b st1)) (chosen answers)
 if_halts cs last end b store halt.Memory chosen = tt
 
 weight_else : (last : Last) → weight (else_body last) ≡ weight_last last
@@ -175,16 +176,16 @@ title_used line (Halts h t) st = refl
 
 pub jump_does : (head : Head) (expr : Expr) (b : Stmts) (store : Pairs) (title : List ℕ) →
     MeansAt (title_given expr store) head.line (Ok title) → (answers : List ℕ) →
-    does_all [] (Cons (Leaf (simple.JumpTo head expr)) b) (at store answers) ≡ done (Jumps head.line title) (at store answers)
+    does_all no_hosts (Cons (Leaf (simple.JumpTo head expr)) b) (at store answers) ≡ done (Jumps head.line title) (at store answers)
 jump_does head expr b store title means answers =
-    ap (λ d. and_on d (λ st1. does_all [] b st1))
-    (title_used head.line (eval [] store expr []) (at store answers)
+    ap (λ d. and_on d b (λ st1. does_all no_hosts b st1))
+    (title_used head.line (eval no_hosts store expr []) (at store answers)
     ∙ ap (λ x. using head.line x (at store answers) (λ t st1. done (Jumps head.line t) st1)) means)
 
 pub jump_halts : (head : Head) (expr : Expr) (b : Stmts) (store : Pairs) (e : Halt) → MeansAt (title_given expr store) head.line (Err e) →
     Does (Cons (Leaf (simple.JumpTo head expr)) b) store (Err e) b store
 jump_halts head expr b store (halt.Fault line fault) means =
-    λ answers. ap (λ d. and_on d (λ st1. does_all [] b st1))
-    (title_used head.line (eval [] store expr []) (at store answers)
+    λ answers. ap (λ d. and_on d b (λ st1. does_all no_hosts b st1))
+    (title_used head.line (eval no_hosts store expr []) (at store answers)
     ∙ using_halts (title_given expr store) head.line line fault store (λ t st1. done (Jumps head.line t) st1) means answers)
 jump_halts head expr b store halt.Memory means = tt

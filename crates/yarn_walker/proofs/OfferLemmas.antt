@@ -15,7 +15,7 @@ use Rattle.yarn_value.specs.Pairs.{Pairs}
 use Rattle.yarn_value.specs.Evaluation.{Evaluated, Gives, Halts, Faults}
 use Rattle.yarn_meaning.specs.Does.{Done, Halted, done, using, choice_of, with_choices}
 use Rattle.yarn_code.specs.Answers.{any_open}
-use Rattle.yarn_walker.specs.States.{at}
+use Rattle.yarn_walker.specs.States.{at, no_hosts}
 use Rattle.yarn_walker.specs.Means.{Means, IsAtLine}
 use Rattle.yarn_walker.specs.Offers.{all_shown, Offers, OffersOne}
 use Rattle.yarn_walker.specs.declared.offer.Offer.{Offer}
@@ -52,25 +52,25 @@ pub options_left : (os : List OptionItem) (i : ℕ) (o : OptionItem) → i < len
 options_left os i o lt is = at_drop_more options_of os i o lt ∙ ap (λ p. options_of (p ∷ drop (i + 1) os)) (sym is)
 
 one_means : (option : OptionItem) (store : Pairs) (r : Result Offer OpFault) (e : Halt) →
-    OffersOne option store r → IsAtLine option.text.line r (Err e) → MeansAt (choice_of [] (offered option) store []) option.text.line (Err e)
+    OffersOne option store r → IsAtLine option.text.line r (Err e) → MeansAt (choice_of no_hosts (offered option) store []) option.text.line (Err e)
 one_means option store (Ok offer) e means is = cc
 one_means option store (Err (op.Run fault)) e means is =
     let same : e ≡ halt.Fault option.text.line fault = cc in
-    subst (λ h. MeansAt (choice_of [] (offered option) store []) option.text.line (Err h)) (sym same) (refl, means)
+    subst (λ h. MeansAt (choice_of no_hosts (offered option) store []) option.text.line (Err h)) (sym same) (refl, means)
 one_means option store (Err op.Memory) e means is =
     let same : e ≡ halt.Memory = cc in
-    subst (λ h. MeansAt (choice_of [] (offered option) store []) option.text.line (Err h)) (sym same) tt
+    subst (λ h. MeansAt (choice_of no_hosts (offered option) store []) option.text.line (Err h)) (sym same) tt
 
 -- the group does what the options that are left do behind those that are shown, and the first that is left has no value
 pub offers_halt : (all left : Options) (shown : List Choice) (option : OptionItem) (more : Options) (store : Pairs) (r : Result Offer OpFault)
     (e : Halt) → ((answers : List ℕ) (next : List Choice → State → Done) →
-    with_choices [] all [] (at store answers) next ≡ with_choices [] left shown (at store answers) next) →
+    with_choices no_hosts all [] (at store answers) next ≡ with_choices no_hosts left shown (at store answers) next) →
     left ≡ AndOption (offered option) (stmts_of option.body) more →
     OffersOne option store r → IsAtLine option.text.line r (Err e) → Offers all store (Err e)
 offers_halt all left shown option more store r (halt.Fault line fault) same first means is =
-    λ answers next. same answers next ∙ ap (λ os. with_choices [] os shown (at store answers) next) first
-    ∙ using_halts (choice_of [] (offered option) store []) option.text.line line fault store
-    (λ c st1. with_choices [] more (shown ++ c ∷ []) st1 next) (one_means option store r (halt.Fault line fault) means is) answers
+    λ answers next. same answers next ∙ ap (λ os. with_choices no_hosts os shown (at store answers) next) first
+    ∙ using_halts (choice_of no_hosts (offered option) store []) option.text.line line fault store
+    (λ c st1. with_choices no_hosts more (shown ++ c ∷ []) st1 next) (one_means option store r (halt.Fault line fault) means is) answers
 offers_halt all left shown option more store r halt.Memory same first means is = tt
 
 -- ---- whether one can be chosen

@@ -9,7 +9,7 @@ use Rattle.yarn_meaning.specs.Does.{does_all}
 use Rattle.yarn_meaning.specs.Texts.{TellsAll, said_in}
 use Rattle.yarn_walker.specs.Frames.{rest_of}
 use Rattle.yarn_walker.specs.Offers.{all_shown}
-use Rattle.yarn_walker.specs.States.{at}
+use Rattle.yarn_walker.specs.States.{at, no_hosts}
 use Rattle.yarn_walker.specs.Walk.{files_of, from_seat, ToldSeat, IsSound, StaysSound, TellsTurn, Turns}
 use Rattle.yarn_walker.specs.declared.frames.Frames.{Frames}
 use Rattle.yarn_walker.specs.declared.titles.NodeAt.{NodeAt}
@@ -32,7 +32,7 @@ module _ (w : Walk) (n : NodeAt) (old new : Frames) (seat : w.seat ≡ Within n 
   plain_comes (Some text) first plain = λ answers k.
       ap (λ (s : Seat). from_seat (files_of w) k (all_shown w.offers.items) s (at w.store answers) k) seat
       ∙ event_comes (files_of w) n (rest_of old) w.store w.store (event.Line text.now.id []) (rest_of new)
-      (λ answers1. ap (λ (b : Stmts). does_all [] b (at w.store answers1)) first ∙ plain_does text.now (rest_of new) w.store plain answers1) answers k
+      (λ answers1. ap (λ (b : Stmts). does_all no_hosts b (at w.store answers1)) first ∙ plain_does text.now (rest_of new) w.store plain answers1) answers k
 
   -- the texts behind it are told as before
   pub plain_sound : (o : Option (Bor LineText)) → IfSome o (λ text. rest_of old ≡ Cons (Leaf (simple.Line text.now)) (rest_of new)) →

@@ -15,13 +15,13 @@ use Rattle.yarn_code.specs.Moments.{State, Stand, Behaviour, moment, stands, emi
 use Rattle.yarn_value.specs.Pairs.{Pairs}
 use Rattle.yarn_meaning.specs.Does.{Done, Through, Jumps, Stops, done, showing, and_on, waits, group_line, does_all, does_option}
 use Rattle.yarn_code.specs.Answers.{any_open}
-use Rattle.yarn_meaning.specs.First.{Placed, nodes_at, nodes_from, first_titled, find, leaves, after, exits_of, from, faults_at}
+use Rattle.yarn_meaning.specs.First.{Placed, nodes_at, nodes_from, first_titled, find, at_node, leaves, after, exits_of, entered, in_node, enters, from, faults_at}
 use Rattle.yarn_meaning.specs.Texts.{Table, Tells, TellsAll, said_in, said_in_one, said_in_nodes, said_in_files}
-use Rattle.yarn_walker.specs.States.{at}
+use Rattle.yarn_walker.specs.States.{at, no_hosts}
 use Rattle.yarn_walker.specs.Faults.{fault_of}
 use Rattle.yarn_walker.specs.Offers.{all_shown}
 use Rattle.yarn_walker.specs.Titles.{placed}
-use Rattle.yarn_walker.specs.Walk.{Coming, Turned, at_group, within_node, with_group, arrives, jumping, leaving}
+use Rattle.yarn_walker.specs.Walk.{Coming, Turned, piece_of, at_group, within_node, with_group, arrives, jumping, leaving}
 use Rattle.yarn_walker.specs.declared.ends.FaultAt.{FaultAt}
 use Rattle.yarn_walker.specs.declared.offer.Offer.{Offer}
 use Rattle.yarn_walker.specs.declared.titles.NodeAt.{NodeAt}
@@ -29,7 +29,7 @@ use Rattle.yarn_walker.specs.declared.walk.Seat.TheVariants.{Enters, Finishes, F
 use Rattle.yarn_walker.specs.declared.walk.Turn.{Turn}
 use Rattle.yarn_walker.specs.declared.walk.Turn.TheVariants as turn
 use Rattle.yarn_walker.specs.declared.walk.Walk.{Walk}
-use Rattle.yarn_walker.proofs.FuelLemmas.{emit_after, leaves_same}
+use Rattle.yarn_walker.proofs.FuelLemmas.{emit_after, node_agrees, leaves_same}
 
 -- ---- texts
 
@@ -104,28 +104,37 @@ ok_turned_same c d (Err e) new same h = tt
 
 -- ---- how a node is left
 
-enters_same : (files : List FileTree) (title : List ℕ) (m : NodeAt) → Some (placed m) ≡ find title files → (st : State) (none : Behaviour) (k j : ℕ) →
-    k ≡ suc j → from [] files k title st none j ≡ arrives files k (Enters m) st j
-enters_same files title m is st none zero j e = absurd (omega arith)
-enters_same files title m is st none (suc k) j e = rw (← is) refl
+enters_same : (files : List FileTree) (n m : NodeAt) (line : ℕ) (title : List ℕ) → Some (placed m) ≡ find title files → (st : State) (j : ℕ) →
+    enters files (from [] files (suc j)) (placed n) line title (piece_of (placed n)) st j ≡ arrives files (suc j) (Enters m) st j
+enters_same files n m line title is st j =
+    ap (λ o. at_node o (stands (faults_at (placed n) line (run_fault.UnknownNode title)) st)
+    (λ to. in_node (from [] files (suc j)) (entered (piece_of (placed n)) to) st) j) (sym is)
+    ∙ node_agrees files (placed m) st j
 
-fails_same : (files : List FileTree) (title : List ℕ) (f : FaultAt) → None ≡ find title files → (st : State) (s : Stand) →
-    Faults (fault_of f) ≡ s → (k j : ℕ) → k ≡ suc j → from [] files k title st (stands s st) j ≡ arrives files k (Fails f) st j
-fails_same files title f is st s one zero j e = absurd (omega arith)
-fails_same files title f is st s one (suc k) j e = rw (← is) (ap (λ x. stands x st j) (sym one))
+fails_same : (files : List FileTree) (n : NodeAt) (f : FaultAt) (line : ℕ) (title : List ℕ) → None ≡ find title files →
+    Faults (fault_of f) ≡ faults_at (placed n) line (run_fault.UnknownNode title) → (st : State) (j : ℕ) →
+    enters files (from [] files (suc j)) (placed n) line title (piece_of (placed n)) st j ≡ arrives files (suc j) (Fails f) st j
+fails_same files n f line title is one st j =
+    ap (λ o. at_node o (stands (faults_at (placed n) line (run_fault.UnknownNode title)) st)
+    (λ to. in_node (from [] files (suc j)) (entered (piece_of (placed n)) to) st) j) (sym is)
+    ∙ ap (λ x. stands x st j) (sym one)
 
 -- a jump to the title of a node leaves for that node
 pub jumping_enters : (files : List FileTree) (n m : NodeAt) (line : ℕ) (title : List ℕ) (store : Pairs) → Some (placed m) ≡ find title files →
     (answers : List ℕ) (k : ℕ) → jumping files n line title store k answers k ≡ leaving files n line (Enters m) store k answers k
 jumping_enters files n m line title store is answers k =
-    leaves_same (placed n) line (at store answers) _ _ k (λ st j e. enters_same files title m is st _ k j e)
+    leaves_same (placed n) line (at store answers) _ _ k
+    (λ st j e. subst (λ i. enters files (from [] files i) (placed n) line title (piece_of (placed n)) st j ≡ arrives files i (Enters m) st j) (sym e)
+    (enters_same files n m line title is st j))
 
 -- a jump to no node's title leaves for a fault
 pub jumping_fails : (files : List FileTree) (n : NodeAt) (f : FaultAt) (line : ℕ) (title : List ℕ) (store : Pairs) → None ≡ find title files →
     Faults (fault_of f) ≡ faults_at (placed n) line (run_fault.UnknownNode title) →
     (answers : List ℕ) (k : ℕ) → jumping files n line title store k answers k ≡ leaving files n line (Fails f) store k answers k
 jumping_fails files n f line title store is one answers k =
-    leaves_same (placed n) line (at store answers) _ _ k (λ st j e. fails_same files title f is st _ one k j e)
+    leaves_same (placed n) line (at store answers) _ _ k
+    (λ st j e. subst (λ i. enters files (from [] files i) (placed n) line title (piece_of (placed n)) st j ≡ arrives files i (Fails f) st j) (sym e)
+    (fails_same files n f line title is one st j))
 
 -- ---- how a group is shown
 
@@ -143,8 +152,8 @@ pub group_asks : (files : List FileTree) (n : NodeAt) (os : List OptionItem) (of
     (λ j. at_group files j (placed n) (options_of os) (all_shown offers) rest (at store answers) j) k
 group_asks files n os offers rest store answers k =
     emit_after files (placed n) (moment (event.Options (all_shown offers)) (at store answers))
-    (and_on (waits (group_line (options_of os)) (all_shown offers) (at store answers) (λ m st. does_option [] (options_of os) m st))
-    (λ st. does_all [] rest st)) k
+    (and_on (waits (group_line (options_of os)) (all_shown offers) (at store answers) (λ m st. does_option no_hosts (options_of os) m st))
+    rest (λ st. does_all no_hosts rest st)) k
 
 -- ---- what the statements of a node do
 
@@ -157,37 +166,38 @@ finishes_same files n line st (suc k) = refl
 abbrev group_done : List OptionItem → List Offer → Stmts → State → Done
 group_done os offers rest st =
     showing (event.Options (all_shown offers)) st
-    (and_on (waits (group_line (options_of os)) (all_shown offers) st (λ m st1. does_option [] (options_of os) m st1)) (λ st1. does_all [] rest st1))
+    (and_on (waits (group_line (options_of os)) (all_shown offers) st (λ m st1. does_option no_hosts (options_of os) m st1)) rest
+    (λ st1. does_all no_hosts rest st1))
 
 module _ (files : List FileTree) (n : NodeAt) (old : Stmts) (before store : Pairs) where
   -- they give an event, and the walk goes on with the rest
   pub event_comes : (e : Event) (rest : Stmts) →
-      ((answers : List ℕ) → does_all [] old (at before answers) ≡ showing e (at store answers) (does_all [] rest (at store answers))) →
+      ((answers : List ℕ) → does_all no_hosts old (at before answers) ≡ showing e (at store answers) (does_all no_hosts rest (at store answers))) →
       (answers : List ℕ) (k : ℕ) →
       within_node files n old before k answers k ≡ emit (moment e (at store answers)) (λ j. within_node files n rest store j answers j) k
   event_comes e rest does_so answers k =
-      ap (λ d. after d (exits_of (from [] files k) (placed n)) k) (does_so answers)
-      ∙ emit_after files (placed n) (moment e (at store answers)) (does_all [] rest (at store answers)) k
+      ap (λ d. after d (exits_of files (from [] files k) (piece_of (placed n))) k) (does_so answers)
+      ∙ emit_after files (placed n) (moment e (at store answers)) (does_all no_hosts rest (at store answers)) k
 
   -- they show a group
   pub group_comes : (os : List OptionItem) (offers : List Offer) (rest : Stmts) →
-      ((answers : List ℕ) → does_all [] old (at before answers) ≡ group_done os offers rest (at store answers)) → (answers : List ℕ) (k : ℕ) →
+      ((answers : List ℕ) → does_all no_hosts old (at before answers) ≡ group_done os offers rest (at store answers)) → (answers : List ℕ) (k : ℕ) →
       within_node files n old before k answers k ≡ with_group files n os offers rest store k answers k
-  group_comes os offers rest does_so answers k = ap (λ d. after d (exits_of (from [] files k) (placed n)) k) (does_so answers)
+  group_comes os offers rest does_so answers k = ap (λ d. after d (exits_of files (from [] files k) (piece_of (placed n))) k) (does_so answers)
 
   -- they jump
   pub jump_comes : (line : ℕ) (title : List ℕ) →
-      ((answers : List ℕ) → does_all [] old (at before answers) ≡ done (Jumps line title) (at store answers)) →
+      ((answers : List ℕ) → does_all no_hosts old (at before answers) ≡ done (Jumps line title) (at store answers)) →
       (answers : List ℕ) (k : ℕ) → within_node files n old before k answers k ≡ jumping files n line title store k answers k
-  jump_comes line title does_so answers k = ap (λ d. after d (exits_of (from [] files k) (placed n)) k) (does_so answers)
+  jump_comes line title does_so answers k = ap (λ d. after d (exits_of files (from [] files k) (piece_of (placed n))) k) (does_so answers)
 
   -- they end, or stop, and the run is over behind the node
-  pub stop_comes : (line : ℕ) → ((answers : List ℕ) → does_all [] old (at before answers) ≡ done (Stops line) (at store answers)) →
+  pub stop_comes : (line : ℕ) → ((answers : List ℕ) → does_all no_hosts old (at before answers) ≡ done (Stops line) (at store answers)) →
       (answers : List ℕ) (k : ℕ) → within_node files n old before k answers k ≡ leaving files n line Finishes store k answers k
   stop_comes line does_so answers k =
-      ap (λ d. after d (exits_of (from [] files k) (placed n)) k) (does_so answers) ∙ finishes_same files n line (at store answers) k
+      ap (λ d. after d (exits_of files (from [] files k) (piece_of (placed n))) k) (does_so answers) ∙ finishes_same files n line (at store answers) k
 
-  pub through_comes : ((answers : List ℕ) → does_all [] old (at before answers) ≡ done Through (at store answers)) →
+  pub through_comes : ((answers : List ℕ) → does_all no_hosts old (at before answers) ≡ done Through (at store answers)) →
       (answers : List ℕ) (k : ℕ) → within_node files n old before k answers k ≡ leaving files n n.node.now.end_line Finishes store k answers k
   through_comes does_so answers k =
-      ap (λ d. after d (exits_of (from [] files k) (placed n)) k) (does_so answers) ∙ finishes_same files n n.node.now.end_line (at store answers) k
+      ap (λ d. after d (exits_of files (from [] files k) (piece_of (placed n))) k) (does_so answers) ∙ finishes_same files n n.node.now.end_line (at store answers) k

@@ -7,14 +7,14 @@ use Rattle.yarn_blocks.specs.View.{stmts_of}
 use Rattle.yarn_value.specs.Pairs.{Pairs}
 use Rattle.yarn_value.specs.Evaluation.{Faults}
 use Rattle.yarn_meaning.specs.Does.{Halted, done, does_all, does_clauses, does_last}
-use Rattle.yarn_walker.specs.States.{at}
+use Rattle.yarn_walker.specs.States.{at, no_hosts}
 use Rattle.yarn_walker.specs.declared.halt.Halt.{Halt}
 use Rattle.yarn_walker.specs.declared.halt.Halt.TheVariants as halt
 
 -- the clauses do what that body does, or an evaluation gives no value
 abbrev pub Chooses : Clauses → Last → Pairs → Result (Bor (List Stmt)) Halt → Type 0
-Chooses cs last store (Ok body) = (answers : List ℕ) → does_clauses [] cs (at store answers) (λ st. does_last [] last st) ≡ does_all [] (stmts_of body.now) (at store answers)
-Chooses cs last store (Err (halt.Fault line fault)) = (answers : List ℕ) → does_clauses [] cs (at store answers) (λ st. does_last [] last st) ≡ done (Halted line (Faults fault)) (at store answers)
+Chooses cs last store (Ok body) = (answers : List ℕ) → does_clauses no_hosts cs (at store answers) (λ st. does_last no_hosts last st) ≡ does_all no_hosts (stmts_of body.now) (at store answers)
+Chooses cs last store (Err (halt.Fault line fault)) = (answers : List ℕ) → does_clauses no_hosts cs (at store answers) (λ st. does_last no_hosts last st) ≡ done (Halted line (Faults fault)) (at store answers)
 Chooses cs last store (Err halt.Memory) = ⊤
 
 -- the body of the `else`; nothing where there is none

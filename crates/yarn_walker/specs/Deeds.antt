@@ -13,7 +13,7 @@ use Rattle.yarn_value.specs.Evaluation.{Evaluated, Gives, Halts, Faults, and_the
 use Rattle.yarn_meaning.specs.Does.{Done, Through, Jumps, Stops, Halted, done, showing, and_on, waits, group_line, title_in, does_all, does_option}
 use Rattle.yarn_meaning.specs.Filled.{filled}
 use Rattle.yarn_meaning.specs.Texts.{Table, Tells, TellsAll, said_in, said_in_options}
-use Rattle.yarn_walker.specs.States.{at}
+use Rattle.yarn_walker.specs.States.{at, no_hosts}
 use Rattle.yarn_walker.specs.Offers.{all_shown, AreOf}
 use Rattle.yarn_walker.specs.declared.offer.Offer.{Offer}
 use Rattle.yarn_walker.specs.declared.halt.Halt.{Halt}
@@ -23,21 +23,22 @@ use Rattle.yarn_walker.specs.declared.deed.Deed.TheVariants as deed
 
 -- the title to which an expression is evaluated
 abbrev pub title_given : Expr → Pairs → Evaluated (List ℕ)
-title_given e store = and_then (eval [] store e []) (λ v t. Gives (title_in v) t)
+title_given e store = and_then (eval no_hosts store e []) (λ v t. Gives (title_in v) t)
 
 -- the values of a line's substitutions, or the fault on its line
 abbrev pub ValuesIn : LineText → Pairs → Result (List Value) Halt → Type 0
-ValuesIn text store (Ok values) = eval_all [] store text.holes [] ≡ Gives values []
-ValuesIn text store (Err (halt.Fault line fault)) = (line ≡ text.line) × (eval_all [] store text.holes [] ≡ Halts (Faults fault) [])
+ValuesIn text store (Ok values) = eval_all no_hosts store text.holes [] ≡ Gives values []
+ValuesIn text store (Err (halt.Fault line fault)) = (line ≡ text.line) × (eval_all no_hosts store text.holes [] ≡ Halts (Faults fault) [])
 ValuesIn text store (Err halt.Memory) = ⊤
 
 -- what is done, with the statements behind it and the state there
 abbrev pub done_of : Deed → Stmts → State → Done
-done_of (deed.Line text values) rest st = showing (event.Line text.now.id values) st (does_all [] rest st)
-done_of (deed.Command text values) rest st = showing (event.Command (filled text.now.text values)) st (does_all [] rest st)
+done_of (deed.Line text values) rest st = showing (event.Line text.now.id values) st (does_all no_hosts rest st)
+done_of (deed.Command text values) rest st = showing (event.Command (filled text.now.text values)) st (does_all no_hosts rest st)
 done_of (deed.Options os offers) rest st =
     showing (event.Options (all_shown offers.items)) st
-    (and_on (waits (group_line (options_of os.now)) (all_shown offers.items) st (λ n st1. does_option [] (options_of os.now) n st1)) (λ st1. does_all [] rest st1))
+    (and_on (waits (group_line (options_of os.now)) (all_shown offers.items) st (λ n st1. does_option no_hosts (options_of os.now) n st1))
+    rest (λ st1. does_all no_hosts rest st1))
 done_of deed.Through rest st = done Through st
 done_of (deed.Jump line title) rest st = done (Jumps line title.now) st
 done_of (deed.JumpTo line title) rest st = done (Jumps line title) st
@@ -45,13 +46,13 @@ done_of (deed.Stop line) rest st = done (Stops line) st
 
 -- the statements do that, or an evaluation gives no value
 abbrev pub Does : Stmts → Pairs → Result Deed Halt → Stmts → Pairs → Type 0
-Does old before (Ok d) new store = (answers : List ℕ) → does_all [] old (at before answers) ≡ done_of d new (at store answers)
-Does old before (Err (halt.Fault line fault)) new store = (answers : List ℕ) → does_all [] old (at before answers) ≡ done (Halted line (Faults fault)) (at store answers)
+Does old before (Ok d) new store = (answers : List ℕ) → does_all no_hosts old (at before answers) ≡ done_of d new (at store answers)
+Does old before (Err (halt.Fault line fault)) new store = (answers : List ℕ) → does_all no_hosts old (at before answers) ≡ done (Halted line (Faults fault)) (at store answers)
 Does old before (Err halt.Memory) new store = ⊤
 
 -- the same; or the first statement is quiet, and all do what the others do
 abbrev pub DoesFirst : Stmts → Pairs → Result (Option Deed) Halt → Stmts → Pairs → Type 0
-DoesFirst old before (Ok None) new store = (answers : List ℕ) → does_all [] old (at before answers) ≡ does_all [] new (at store answers)
+DoesFirst old before (Ok None) new store = (answers : List ℕ) → does_all no_hosts old (at before answers) ≡ does_all no_hosts new (at store answers)
 DoesFirst old before (Ok (Some d)) new store = Does old before (Ok d) new store
 DoesFirst old before (Err e) new store = Does old before (Err e) new store
 

@@ -10,7 +10,7 @@ use Rattle.yarn_code.specs.Moments.{State}
 use Rattle.yarn_value.specs.Pairs.{Pairs}
 use Rattle.yarn_value.specs.Evaluation.{Faults}
 use Rattle.yarn_meaning.specs.Does.{Done, Halted, done, with_choices, choice_of}
-use Rattle.yarn_walker.specs.States.{at}
+use Rattle.yarn_walker.specs.States.{at, no_hosts}
 use Rattle.yarn_walker.specs.Means.{Means}
 use Rattle.yarn_walker.specs.declared.offer.Offer.{Offer}
 use Rattle.yarn_walker.specs.declared.halt.Halt.{Halt}
@@ -29,14 +29,14 @@ one_shown (Err fault) = Err fault
 
 -- an option of the source is shown so, or its evaluation gives no value
 abbrev pub OffersOne : OptionItem → Pairs → Result Offer OpFault → Type 0
-OffersOne option store result = Means (choice_of [] (record { text = option.text; condition = option.condition }) store []) (one_shown result)
+OffersOne option store result = Means (choice_of no_hosts (record { text = option.text; condition = option.condition }) store []) (one_shown result)
 
 -- a group is shown so, or an evaluation gives no value
 abbrev pub Offers : Options → Pairs → Result (Vec Offer Global) Halt → Type 0
 Offers os store (Ok offers) = (answers : List ℕ) (next : List Choice → State → Done) →
-    with_choices [] os [] (at store answers) next ≡ next (all_shown offers.items) (at store answers)
+    with_choices no_hosts os [] (at store answers) next ≡ next (all_shown offers.items) (at store answers)
 Offers os store (Err (halt.Fault line fault)) = (answers : List ℕ) (next : List Choice → State → Done) →
-    with_choices [] os [] (at store answers) next ≡ done (Halted line (Faults fault)) (at store answers)
+    with_choices no_hosts os [] (at store answers) next ≡ done (Halted line (Faults fault)) (at store answers)
 Offers os store (Err halt.Memory) = ⊤
 
 -- the texts of the group's options

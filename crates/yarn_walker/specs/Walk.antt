@@ -3,7 +3,6 @@ use Rattle.std.specs.Prelude.{◌≡◌, ℕ, zero, suc, List, [], map, Bool, tr
 use Rattle.std.specs.Borrow.{Bor}
 use Rattle.yarn_blocks.specs.declared.tree.Stmt.{Stmt}
 use Rattle.yarn_blocks.specs.declared.tree.OptionItem.{OptionItem}
-use Rattle.yarn_value.specs.declared.fault.RunFault.TheVariants as run_fault
 use Rattle.yarn_blocks.specs.Tree.{Stmts, Options}
 use Rattle.yarn_blocks.specs.View.{stmts_of, options_of}
 use Rattle.yarn_tree.specs.Trees.{FileTree, file_tree}
@@ -16,9 +15,9 @@ use Rattle.yarn_value.specs.Pairs.{Pairs}
 use Rattle.yarn_meaning.specs.Does.{and_on, waits, group_line, does_all, does_option}
 use Rattle.yarn_code.specs.Answers.{any_open, chooses, less_one}
 use Rattle.yarn_meaning.specs.Filled.{filled}
-use Rattle.yarn_meaning.specs.First.{Placed, leaves, after, exits_of, in_body, in_node, from, faults_at}
+use Rattle.yarn_meaning.specs.First.{Placed, Piece, leaves, after, exits_of, enters, in_node, from}
 use Rattle.yarn_meaning.specs.Texts.{Table, Tells, TellsAll, said_in, said_in_options, said_in_files}
-use Rattle.yarn_walker.specs.States.{at}
+use Rattle.yarn_walker.specs.States.{at, no_hosts}
 use Rattle.yarn_walker.specs.Faults.{fault_of}
 use Rattle.yarn_walker.specs.Frames.{rest_of}
 use Rattle.yarn_walker.specs.Titles.{placed, HasAll}
@@ -36,18 +35,27 @@ files_of w = map file_tree w.titles.files.now
 
 -- ---- what is to come
 
--- what comes through at most so many further nodes, with these bytes of the input left
+-- what comes through at most so many further pieces, with these bytes of the input left
 abbrev pub Coming : Type 0
 Coming = ℕ → List ℕ → Behaviour
+
+-- the body of a node, as a run without host functions has it
+abbrev pub piece_of : Placed → Piece
+piece_of n = record { node = n }
+
+-- statements of the node, and what follows them
+abbrev pub in_body : List FileTree → ℕ → Placed → Stmts → State → Behaviour
+in_body files fuel n b st = after (does_all no_hosts b st) (exits_of files (from [] files fuel) (piece_of n))
 
 -- at a group that is shown, with the statements behind it
 abbrev pub at_group : List FileTree → ℕ → Placed → Options → List Choice → Stmts → State → Behaviour
 at_group files fuel n os cs rest st =
-    after (and_on (waits (group_line os) cs st (λ number st1. does_option [] os number st1)) (λ st1. does_all [] rest st1)) (exits_of (from [] files fuel) n)
+    after (and_on (waits (group_line os) cs st (λ number st1. does_option no_hosts os number st1)) rest (λ st1. does_all no_hosts rest st1))
+    (exits_of files (from [] files fuel) (piece_of n))
 
 abbrev pub from_seat : List FileTree → ℕ → List Choice → Seat → State → Behaviour
-from_seat files fuel cs (Enters n) st = in_node [] (from [] files fuel) st (placed n)
-from_seat files fuel cs (Within n rest) st = in_body [] (from [] files fuel) (placed n) (rest_of rest) st
+from_seat files fuel cs (Enters n) st = in_node (from [] files fuel) (piece_of (placed n)) st
+from_seat files fuel cs (Within n rest) st = in_body files fuel (placed n) (rest_of rest) st
 from_seat files fuel cs (Chooses n os rest) st = at_group files fuel (placed n) (options_of os.now) cs (rest_of rest) st
 from_seat files fuel cs Finishes st = finishes st
 from_seat files fuel cs (Fails f) st = stands (Faults (fault_of f)) st
@@ -55,7 +63,7 @@ from_seat files fuel cs (Fails f) st = stands (Faults (fault_of f)) st
 abbrev pub coming : Walk → Coming
 coming w fuel answers = from_seat (files_of w) fuel (all_shown w.offers.items) w.seat (at w.store answers)
 
--- what a walk gives within the next k + 1 events; each node gives an event, so room for k further nodes suffices
+-- what a walk gives within the next k + 1 events; each piece begins behind an event, so room for k further pieces suffices
 abbrev pub run_of : Walk → List ℕ → Behaviour
 run_of w answers k = coming w k answers k
 
@@ -97,7 +105,7 @@ IsChosen false number old new = (bytes rest : List ℕ) (k : ℕ) → answer_of 
 -- the number, from 1, chooses an option that can be chosen, with that body; else none is chosen
 abbrev pub Opens : List Choice → Options → ℕ → Option (Bor (List Stmt)) → Type 0
 Opens cs os number (Some body) =
-    (chooses number cs ≡ true) × ((st : State) → does_option [] os (less_one number) st ≡ does_all [] (stmts_of body.now) st)
+    (chooses number cs ≡ true) × ((st : State) → does_option no_hosts os (less_one number) st ≡ does_all no_hosts (stmts_of body.now) st)
     × ((table : Table) → TellsAll table (said_in_options os) → TellsAll table (said_in (stmts_of body.now)))
 Opens cs os number None = chooses number cs ≡ false
 
@@ -144,7 +152,7 @@ pub record StaysSound (old new : Walk) : Type 0 where
 
 -- the statements of a node
 abbrev pub within_node : List FileTree → NodeAt → Stmts → Pairs → Coming
-within_node files n rest store fuel answers = in_body [] (from [] files fuel) (placed n) rest (at store answers)
+within_node files n rest store fuel answers = in_body files fuel (placed n) rest (at store answers)
 
 -- a group of a node
 abbrev pub with_group : List FileTree → NodeAt → List OptionItem → List Offer → Stmts → Pairs → Coming
@@ -154,12 +162,12 @@ with_group files n os offers rest store fuel answers =
 -- a jump on that line to that title
 abbrev pub jumping : List FileTree → NodeAt → ℕ → List ℕ → Pairs → Coming
 jumping files n line title store fuel answers =
-    leaves (placed n) line (at store answers) (λ st. from [] files fuel title st (stands (faults_at (placed n) line (run_fault.UnknownNode title)) st))
+    leaves (placed n) line (at store answers) (enters files (from [] files fuel) (placed n) line title (piece_of (placed n)))
 
 -- what comes behind a node that is left, where the walk goes on so
 abbrev pub arrives : List FileTree → ℕ → Seat → State → Behaviour
 arrives files zero (Enters n) st = stands Limit st
-arrives files (suc fuel) (Enters n) st = in_node [] (from [] files fuel) st (placed n)
+arrives files (suc fuel) (Enters n) st = in_node (from [] files fuel) (piece_of (placed n)) st
 arrives files fuel Finishes st = finishes st
 arrives files fuel (Fails f) st = stands (Faults (fault_of f)) st
 arrives files fuel _ st = stands Limit st

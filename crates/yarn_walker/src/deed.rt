@@ -7,6 +7,7 @@ ghost use Rattle.yarn_walker.specs.Deeds.{Does, DoesFirst, KeepsTexts, KeepsText
 ghost use Rattle.yarn_walker.specs.Frames.{rest_of};
 ghost use Rattle.yarn_walker.specs.Means.{Means};
 ghost use Rattle.yarn_walker.specs.Weight.{weight};
+ghost use Rattle.yarn_walker.specs.States.{no_hosts};
 
 use crate::clause::chosen_body;
 use crate::evaluate::{combined, evaluate, evaluate_all};
@@ -115,7 +116,7 @@ fn set_value(
     expr: &Expr,
     store: &Store,
 ) -> Result<Value, OpFault>
-    ensures { Means (set_value_of [] name.now op expr.now store.now []) result }
+    ensures { Means (set_value_of no_hosts name.now op expr.now store.now []) result }
 {
     let value = evaluate(alloc, expr, store)?;
     match op {

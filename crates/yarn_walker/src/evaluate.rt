@@ -1,11 +1,12 @@
 //! The values of expressions (docs/language.md, The meaning; Operators and builtins).
 ghost use Rattle.std.specs.Prelude.{◌≡◌, [], ◌∷◌, IfOk, IsTrue};
 ghost use Rattle.yarn_value.specs.Rows.{HasKinds, first_of, second_of, takes as kinds_taken};
-ghost use Rattle.yarn_meaning.specs.Eval.{eval, eval_all, operated as operated_of, unary_op as unary_op_of, binary_op as binary_op_of, called, stored as stored_of, visits_value as visits_value_of, plus_of};
+ghost use Rattle.yarn_meaning.specs.Eval.{eval, eval_all, operated as operated_of, unary_op as unary_op_of, binary_op as binary_op_of, called, stored as stored_of, known_value as known_value_of, plus_of};
 ghost use Rattle.yarn_value.specs.Builtins.{builtin_named};
 ghost use Rattle.yarn_value.specs.Visits.{of_visits as value_of_visits};
 ghost use Rattle.yarn_meaning.specs.Does.{is_true as is_true_of};
 ghost use Rattle.yarn_walker.specs.Means.{Means};
+ghost use Rattle.yarn_walker.specs.States.{no_hosts};
 
 use crate::stored::visits;
 use std::alloc::Global;
@@ -18,7 +19,7 @@ use yarn_value::{Kind, Op, OpFault, Value, apply, find_builtin};
 /// than the operator's, are answered by `Memory`: no project with one typing has them.
 #[cycle(evaluation)]
 pub(crate) fn evaluate(alloc: Global, expr: &Expr, store: &Store) -> Result<Value, OpFault>
-    ensures { Means (eval [] store.now expr.now []) result }
+    ensures { Means (eval no_hosts store.now expr.now []) result }
 {
     match expr {
         Expr::Number(number) => Ok(Value::Number(*number)),
@@ -49,7 +50,7 @@ pub(crate) fn evaluate_all(
     exprs: &[Expr],
     store: &Store,
 ) -> Result<List<Value>, OpFault>
-    ensures { Means (eval_all [] store.now exprs.now []) result }
+    ensures { Means (eval_all no_hosts store.now exprs.now []) result }
 {
     let mut values = List::new(alloc);
     for expr in exprs {
@@ -179,20 +180,20 @@ fn takes_two(op: Op, first: Kind, second: Kind) -> bool
 
 #[tactic(auto, unfolding(yarn_value::specs::Builtins::builtin_named))]
 fn call(alloc: Global, name: &Text, args: &[Value], store: &Store) -> Result<Value, OpFault>
-    ensures { Means (called [] store.now (builtin_named name.now) name.now args.now []) result }
+    ensures { Means (called no_hosts store.now (builtin_named name.now) name.now args.now []) result }
 {
     match find_builtin(name.as_str()) {
         Some(row) => match row.op {
             Some(op) => operated(alloc, op, args),
-            None => Ok(visits_value(alloc, row.result, args, store)?),
+            None => Ok(known_value(alloc, row.result, args, store)?),
         },
         None => Err(OpFault::Memory),
     }
 }
 
 // What `visited` and `visited_count` say of a title.
-fn visits_value(alloc: Global, kind: Kind, args: &[Value], store: &Store) -> Result<Value, Memory>
-    ensures { IfOk result (λ value. value ≡ visits_value_of store.now kind args.now) }
+fn known_value(alloc: Global, kind: Kind, args: &[Value], store: &Store) -> Result<Value, Memory>
+    ensures { IfOk result (λ value. value ≡ known_value_of no_hosts store.now kind args.now) }
 {
     match args {
         [Value::Str(title)] => Ok(of_visits(kind, visits(alloc, store, title)?)),

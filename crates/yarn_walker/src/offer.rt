@@ -5,6 +5,7 @@ ghost use Rattle.yarn_meaning.specs.Does.{asked};
 ghost use Rattle.yarn_code.specs.Answers.{any_open as any_open_of};
 ghost use Rattle.yarn_walker.specs.Means.{Means};
 ghost use Rattle.yarn_walker.specs.Offers.{all_shown, Offers, OffersOne, AreOf};
+ghost use Rattle.yarn_walker.specs.States.{no_hosts};
 
 use crate::evaluate::{evaluate, evaluate_all, is_true};
 use crate::halt::{Halt, at_line};
@@ -65,7 +66,7 @@ fn offer_of<'p>(alloc: Global, option: &'p OptionItem, store: &Store) -> Result<
 
 // Whether the condition of an option holds; one without a condition can be chosen.
 fn holds(alloc: Global, condition: &Option<Expr>, store: &Store) -> Result<bool, OpFault>
-    ensures { Means (asked [] condition.now store.now []) result }
+    ensures { Means (asked no_hosts condition.now store.now []) result }
 {
     match condition {
         Some(expr) => Ok(is_true(&evaluate(alloc, expr, store)?)),

@@ -3,7 +3,7 @@ use Rattle.yarn_blocks.specs.Tree.{Cons}
 use Rattle.yarn_blocks.specs.View.{stmt_of}
 use Rattle.yarn_meaning.specs.Does.{does_all}
 use Rattle.yarn_meaning.specs.Texts.{TellsAll, said_in}
-use Rattle.yarn_walker.specs.States.{at}
+use Rattle.yarn_walker.specs.States.{at, no_hosts}
 use Rattle.yarn_walker.specs.Frames.{rest_of}
 use Rattle.yarn_walker.specs.Deeds.{DoesFirst, KeepsTextsFirst}
 use Rattle.yarn_walker.proofs.deed.next_deed.Goals as goal
@@ -24,6 +24,6 @@ loop-statement-preserved c =
     subst (λ o. DoesFirst first before (Ok o) new c.deed_of.new.store) c.in_default-2.is c.in_ok-deed.ensures.meaning in
     let keeps : KeepsTextsFirst first (Ok None) new = subst (λ o. KeepsTextsFirst first (Ok o) new) c.in_default-2.is c.in_ok-deed.ensures.texts in
     record {
-      meaning = λ answers. c.loop-statement.invariant.meaning answers ∙ ap (λ s. does_all [] s (at before answers)) c.in-Some.ensures.some ∙ does answers;
+      meaning = λ answers. c.loop-statement.invariant.meaning answers ∙ ap (λ s. does_all no_hosts s (at before answers)) c.in-Some.ensures.some ∙ does answers;
       texts = λ table told. keeps table (subst (λ s. TellsAll table (said_in s)) c.in-Some.ensures.some (c.loop-statement.invariant.texts table told));
     }

@@ -1,7 +1,7 @@
 use Rattle.std.proofs.Common.{◌≡◌, ℕ, List, []}
 use Rattle.yarn_meaning.specs.Does.{does_all}
 use Rattle.yarn_meaning.specs.Texts.{Table, TellsAll, said_in}
-use Rattle.yarn_walker.specs.States.{at}
+use Rattle.yarn_walker.specs.States.{at, no_hosts}
 use Rattle.yarn_walker.specs.Frames.{rest_of}
 use Rattle.yarn_walker.specs.Weight.{weight}
 use Rattle.yarn_walker.proofs.deed.next_deed.Given as goal
@@ -10,7 +10,7 @@ use Rattle.yarn_walker.proofs.deed.next_deed.Given as goal
 abbrev pub invariant-loop-statement : goal.invariant-loop-statement
 invariant-loop-statement l =
     record {
-      meaning : (answers : List ℕ) → does_all [] (rest_of l.fn.rest) (at l.fn.store answers) ≡ does_all [] (rest_of l.rest) (at l.store answers);
+      meaning : (answers : List ℕ) → does_all no_hosts (rest_of l.fn.rest) (at l.fn.store answers) ≡ does_all no_hosts (rest_of l.rest) (at l.store answers);
       texts : (table : Table) → TellsAll table (said_in (rest_of l.fn.rest)) → TellsAll table (said_in (rest_of l.rest));
     }
 

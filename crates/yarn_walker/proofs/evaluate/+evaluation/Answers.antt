@@ -2,6 +2,7 @@ use Rattle.std.proofs.Common.{◌≡◌, ◌+◌, drop, [], ◌∷◌, ◌++◌,
 use Rattle.std.proofs.lemmas.Grind.{common_steps}
 use Rattle.std.proofs.lemmas.Result.{err_from_is_err_and}
 use Rattle.yarn_meaning.specs.Eval.{eval_all}
+use Rattle.yarn_walker.specs.States.{no_hosts}
 use Rattle.yarn_walker.proofs.EvaluateLemmas.{call-halted, call-made, behind, behind-item}
 use Rattle.yarn_walker.proofs.evaluate.+evaluation.Goals as goal
 
@@ -24,4 +25,4 @@ evaluate_all-loop-expr-preserved t c =
     let next = behind-item c.args.store.now before c.args.exprs.now at c.expr-item.result c.in_ok-value.value
     c.loop-expr-test.true c.expr-item.is c.in_ok-value.ensures in
     let pushed : c.push.new.self ≡ before ++ c.in_ok-value.value ∷ [] = grind (arith, common_steps) in
-    c.loop-expr.invariant ∙ next ∙ sym (ap (λ values. behind values (eval_all [] c.args.store.now (drop (at + 1) c.args.exprs.now) [])) pushed)
+    c.loop-expr.invariant ∙ next ∙ sym (ap (λ values. behind values (eval_all no_hosts c.args.store.now (drop (at + 1) c.args.exprs.now) [])) pushed)

@@ -3,7 +3,7 @@ use Rattle.yarn_blocks.specs.View.{options_of}
 use Rattle.yarn_code.specs.declared.event.Choice.{Choice}
 use Rattle.yarn_code.specs.Moments.{State}
 use Rattle.yarn_meaning.specs.Does.{Done, with_choices}
-use Rattle.yarn_walker.specs.States.{at}
+use Rattle.yarn_walker.specs.States.{at, no_hosts}
 use Rattle.yarn_walker.specs.Offers.{all_shown, texts_of}
 use Rattle.yarn_walker.proofs.offer.offers_of.Given as goal
 
@@ -12,7 +12,7 @@ abbrev pub invariant-loop-option : goal.invariant-loop-option
 invariant-loop-option l =
     record {
       meaning : (answers : List ℕ) (next : List Choice → State → Done) →
-          with_choices [] (options_of l.options) [] (at l.store answers) next
-          ≡ with_choices [] (options_of (drop l.option-index l.options)) (all_shown l.offers.items) (at l.store answers) next;
+          with_choices no_hosts (options_of l.options) [] (at l.store answers) next
+          ≡ with_choices no_hosts (options_of (drop l.option-index l.options)) (all_shown l.offers.items) (at l.store answers) next;
       texts : map (λ offer. offer.text.now) l.offers.items ++ texts_of (options_of (drop l.option-index l.options)) ≡ texts_of (options_of l.options);
     }

@@ -2,13 +2,12 @@ use Rattle.std.proofs.Common.{◌≡◌, true, false, Some, [], refl, sym, ap, s
 use Rattle.yarn_blocks.specs.Tree.{stmts_then}
 use Rattle.yarn_blocks.specs.View.{stmts_of, options_of}
 use Rattle.yarn_code.specs.Answers.{any_open, chooses}
-use Rattle.yarn_meaning.specs.First.{in_body, from}
 use Rattle.yarn_meaning.specs.Texts.{TellsAll, said_in}
 use Rattle.yarn_walker.specs.States.{at}
 use Rattle.yarn_walker.specs.Frames.{rest_of}
 use Rattle.yarn_walker.specs.Titles.{placed}
 use Rattle.yarn_walker.specs.Offers.{all_shown}
-use Rattle.yarn_walker.specs.Walk.{files_of, from_seat, IsGroup, ToldSeat, WithTexts, Opens}
+use Rattle.yarn_walker.specs.Walk.{files_of, in_body, from_seat, IsGroup, ToldSeat, WithTexts, Opens}
 use Rattle.yarn_walker.specs.declared.walk.Seat.{Seat}
 use Rattle.yarn_walker.specs.declared.walk.Seat.TheVariants.{Chooses}
 use Rattle.yarn_walker.proofs.AnswerLemmas.{chosen_comes, rejected_comes}
@@ -30,7 +29,7 @@ returns-in_ok-push-in-Some-clause-meaning c =
     λ bytes left k is.
     ap (λ (s : Seat). from_seat (files_of w) k (all_shown w.offers.items) s (at w.store bytes) k) seat
     ∙ chosen_comes (files_of w) (placed node) os (all_shown w.offers.items) behind w.store c.args.number bytes left body asks opens.0 opens.1 is k
-    ∙ ap (λ b. in_body [] (from [] (files_of w) k) (placed node) b (at w.store left) k) (sym joins)
+    ∙ ap (λ b. in_body (files_of w) k (placed node) b (at w.store left) k) (sym joins)
 
 -- The texts of that body are among those of the options.
 pub returns-in_ok-push-in-Some-clause-sound : goal.returns-in_ok-push-in-Some-clause-sound
