@@ -1,3 +1,4 @@
+//! How a command ends.
 ghost use Rattle.std.specs.Prelude.{◌≡◌};
 ghost use Rattle.yarn_cli.specs.Status.{code_of};
 

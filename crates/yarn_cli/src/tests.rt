@@ -1,3 +1,4 @@
+//! Runs that a table of cases can't show: calls that fail, and pieces and files of any size.
 ghost use Rattle.std.specs.Prelude.{◌≤◌};
 
 use crate::{Command, CommandKind, Status, read_words, run_yarn};

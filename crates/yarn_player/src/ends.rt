@@ -1,3 +1,4 @@
+//! How a run ends, and why it is cut short.
 use yarn_store::Store;
 use yarn_walker::FaultAt;
 

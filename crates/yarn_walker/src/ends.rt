@@ -1,3 +1,4 @@
+//! Where a run faults.
 use yarn_base::Text;
 use yarn_value::RunFault;
 

@@ -1,3 +1,4 @@
+//! Why a statement isn't done.
 ghost use Rattle.std.specs.Prelude.{◌≡◌};
 ghost use Rattle.yarn_walker.specs.Means.{IsAtLine};
 

@@ -1,3 +1,4 @@
+//! Nodes, found by their titles.
 ghost use Rattle.std.specs.Prelude.{◌≡◌, map, IfOk, OnOk, option_map};
 ghost use Rattle.yarn_tree.specs.Trees.{node_tree, file_tree};
 ghost use Rattle.yarn_meaning.specs.First.{find, faults_at, nodes_at};
