@@ -3,4 +3,4 @@
 
 mod laws;
 
-pub use laws::definitions_stand;
+pub use laws::code_is_valid;

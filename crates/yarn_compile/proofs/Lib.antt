@@ -1,0 +1,17 @@
+mod Parts
+mod Whole
+mod Calls
+mod ExpressionShapes
+mod Room
+mod Levels
+mod Light
+mod Items
+mod Rooms
+mod CodeSizes
+mod SimpleShapes
+mod StatementShapes
+mod KnownFunctions
+mod KnownLines
+mod KnownVariables
+mod NodeShapes
+mod Accepted
