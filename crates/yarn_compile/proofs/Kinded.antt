@@ -2,16 +2,10 @@
 use Rattle.std.proofs.Common.{◌≡◌, ℕ, Bool, true, false, ◌&&◌, if◌then◌else◌, List, [], ◌∷◌, map, Option, Some, None, is_some, refl, sym, ap, ◌∙◌, subst}
 use Rattle.std.specs.Option.{option_map}
 use Rattle.yarn_value.specs.declared.value.Kind.{Kind}
-use Rattle.yarn_value.specs.declared.value.Value.{Value}
-use Rattle.yarn_value.specs.declared.value.Value.TheVariants.{Number, Str, Truth}
 use Rattle.yarn_value.specs.declared.signature.Signature.{Signature}
 use Rattle.yarn_value.specs.declared.builtin.Param.{Param}
-use Rattle.yarn_value.specs.Values.{kind_of}
-use Rattle.yarn_value.specs.Builtins.{Row, applied, builtin_named}
-use Rattle.yarn_expr.specs.declared.tree.UnaryOp.{UnaryOp}
-use Rattle.yarn_expr.specs.declared.tree.UnaryOp.TheVariants.{Neg, Not}
+use Rattle.yarn_value.specs.Builtins.{Row}
 use Rattle.yarn_expr.specs.declared.tree.BinaryOp.{BinaryOp}
-use Rattle.yarn_expr.specs.declared.tree.BinaryOp.TheVariants.{Mul, Div, Rem, Add, Sub, Lte, Gte, Lt, Gt, Eq, Neq, And, Or, Xor}
 use Rattle.yarn_expr.specs.declared.tree.Expr.{Expr}
 use Rattle.yarn_expr.specs.declared.tree.Expr.TheOpen.{Expr-F}
 use Rattle.yarn_expr.specs.declared.tree.Expr.TheViews.{roll-Expr}
@@ -20,45 +14,8 @@ use Rattle.yarn_types.specs.Typings.{kinds_in}
 use Rattle.yarn_types.specs.KindSets.{only}
 use Rattle.yarn_types.specs.Fits as fits
 use Rattle.yarn_types.specs.Fits.{joined, is_in, takes_each, kinds_of, row_takes, called, kind_step}
-use Rattle.yarn_meaning.specs.Eval.{unary_op, plus_of, binary_op}
-use Rattle.yarn_compile.specs.Code.{Terms, unary_name, plus_name, binary_name, TypedCode, kinds_of_all, code_step, typed_expr}
+use Rattle.yarn_compile.specs.Code.{Terms, TypedCode, kinds_of_all, code_step, typed_expr}
 use Rattle.yarn_kinds.specs.Typed.{variables_in}
-
--- ---- operators
-
-pub unary_row : (op : UnaryOp) → builtin_named (unary_name op) ≡ Some (applied (unary_name op) (unary_op op))
-unfolding builtin_named
-unary_row Neg = refl
-unary_row Not = refl
-
-plus_row : (v : Value) → builtin_named (plus_name (Some (kind_of v))) ≡ Some (applied (plus_name (Some (kind_of v))) (plus_of v))
-unfolding builtin_named
-plus_row (Number n) = refl
-plus_row (Str text) = refl
-plus_row (Truth b) = refl
-
--- the operation of an operator whose left side has the kind of its value
-pub binary_row : (op : BinaryOp) (v : Value) → builtin_named (binary_name op (Some (kind_of v))) ≡ Some (applied (binary_name op (Some (kind_of v))) (binary_op op v))
-unfolding builtin_named
-binary_row Mul v = refl
-binary_row Div v = refl
-binary_row Rem v = refl
-binary_row Add v = plus_row v
-binary_row Sub v = refl
-binary_row Lte v = refl
-binary_row Gte v = refl
-binary_row Lt v = refl
-binary_row Gt v = refl
-binary_row Eq v = refl
-binary_row Neq v = refl
-binary_row And v = refl
-binary_row Or v = refl
-binary_row Xor v = refl
-
--- the count of a node rises by this
-pub add_row : builtin_named (binary_name Sub None) ≡ Some (applied (binary_name Sub None) (binary_op Sub (Truth true)))
-unfolding builtin_named
-add_row = refl
 
 -- ---- parts with a kind
 

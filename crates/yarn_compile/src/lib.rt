@@ -3,4 +3,4 @@
 
 mod laws;
 
-pub use laws::definitions_stand;
+pub use laws::{counts_rise, operators_have_rows};

@@ -1,0 +1,4 @@
+pub mod Rows
+pub mod Follows
+pub mod Kinded
+pub mod ExpressionsCompute
