@@ -26,7 +26,7 @@ use Rattle.yarn_compile.specs.Code.{Terms, TypedCode, code_step, typed_expr, exp
 use Rattle.yarn_kinds.specs.Typed.{variables_in}
 use Rattle.yarn_code.specs.declared.program.Program.{Program}
 use Rattle.yarn_compile.proofs.Follows.{Site, scope_in}
-use Rattle.yarn_compile.proofs.ExpressionsCompute.{Each}
+use Rattle.yarn_kinds.proofs.Names.{Each}
 
 pub in_set_kinded : (set : KindSet) (o : Option Kind) → is_in set o ≡ true → is_some o ≡ true
 in_set_kinded set (Some k) h = refl
