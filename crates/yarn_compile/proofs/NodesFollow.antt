@@ -66,9 +66,9 @@ module _ (terms : Terms) where
       by_title false e = e
 
 -- the variables of a program are those of its project
-pairs_same : (ps : Pairs) → pairs_of (variables_for ps) ≡ ps
-pairs_same [] = refl
-pairs_same (p ∷ ps) = ap (λ l. p ∷ l) (pairs_same ps)
+pairs_same : (terms : Terms) (ps : Pairs) → pairs_of (variables_for terms ps) ≡ ps
+pairs_same terms [] = refl
+pairs_same terms (p ∷ ps) = ap (λ l. p ∷ l) (pairs_same terms ps)
 
 -- what is known of files: a typing fits them, and their commands have texts that are templates
 pub record AreKnown (signatures : List Signature) (entries : List TypedName) (files : List FileTree) : Type 0 where
@@ -231,12 +231,12 @@ module _ (signatures : List Signature) (entries : List TypedName) (files : List 
   -- the run begins with the variables of the project
   entry_is : (start : List ℕ) (st : State) → entry p start st ≡ states.enters (here_in start) (beginning entries files st)
   entry_is start st =
-      ap (λ ps. states.enters (here_in start) (record { store = with_missing st.store ps; answers = st.answers; tape = st.tape })) (pairs_same (variables_of entries files))
+      ap (λ ps. states.enters (here_in start) (record { store = with_missing st.store ps; answers = st.answers; tape = st.tape })) (pairs_same terms (variables_of entries files))
 
   begins_fine : (st : State) → KeepsKinds (pairs_of p.variables) st.store → Fine (first_store st.store entries files)
   begins_fine st kept =
       held_is_sound signatures entries files (first_store st.store entries files) (record { fits = known.typed.lines; unreserved = known.typed.unreserved })
-      (begun_held entries files st.store known.typed.apart known.typed.unreserved (subst (λ ps. KeepsKinds ps st.store) (pairs_same (variables_of entries files)) kept))
+      (begun_held entries files st.store known.typed.apart known.typed.unreserved (subst (λ ps. KeepsKinds ps st.store) (pairs_same terms (variables_of entries files)) kept))
 
   entry_comes : (start : List ℕ) (node : Placed) (st : State) (k : ℕ) → find start files ≡ Some node → KeepsKinds (pairs_of p.variables) st.store →
       ComesTo p (entry p start st) k (first_of signatures files start (beginning entries files st) (suc k))
