@@ -17,7 +17,7 @@ use Rattle.yarn_kinds.proofs.Fitting as fitting
 use Rattle.yarn_kinds.proofs.Names.{Each, each_append, each_front, each_back, from_all}
 use Rattle.yarn_kinds.proofs.Stores.{put_kind}
 use Rattle.yarn_compile.specs.Code.{Terms}
-use Rattle.yarn_compile.proofs.Texts.{HaveTexts, AreTexts}
+use Rattle.yarn_compile.proofs.Texts.{AreTexts}
 use Rattle.yarn_compile.proofs.Sound.{FitsAll, fit_all}
 
 -- ---- a value that is put
@@ -71,27 +71,35 @@ counts_node entries files store sound title node e =
 
 -- ---- files that fit
 
+-- the texts of a node's body are templates
+abbrev pub PlacedTexts : Placed → Type 0
+PlacedTexts n = AreTexts n.node.body
+
 module _ (terms : Terms) where
   abbrev NodeFits : NodeTree → Type 0
   NodeFits node = fitting.FitsAll terms.signatures terms.entries node.body
 
-  abbrev NodeTexts : NodeTree → Type 0
-  NodeTexts node = HaveTexts node.body
+  abbrev PlacedNodeFits : Placed → Type 0
+  PlacedNodeFits n = fitting.FitsAll terms.signatures terms.entries n.node.body
 
   abbrev PlacedFits : Placed → Type 0
   PlacedFits n = FitsAll terms n.node.body
 
-  placed_at : (file : ℕ) (ns : List NodeTree) → Each NodeFits ns → Each NodeTexts ns → Each PlacedFits (nodes_at file ns)
-  placed_at file [] h texts = tt
-  placed_at file (n ∷ ns) h texts = (fit_all terms n.body h.0 texts.0, placed_at file ns h.1 texts.1)
+  placed_at : (file : ℕ) (ns : List NodeTree) → Each NodeFits ns → Each PlacedNodeFits (nodes_at file ns)
+  placed_at file [] h = tt
+  placed_at file (n ∷ ns) h = (h.0, placed_at file ns h.1)
 
-  placed_from : (file : ℕ) (files : List FileTree) → Each (λ (f : FileTree). All NodeFits f.nodes) files → Each (λ (f : FileTree). All NodeTexts f.nodes) files → Each PlacedFits (nodes_from file files)
-  placed_from file [] h texts = tt
-  placed_from file (f ∷ files) h texts =
-      each_append PlacedFits (nodes_at file f.nodes) (nodes_from (suc file) files) (placed_at file f.nodes (from_all NodeFits f.nodes h.0) (from_all NodeTexts f.nodes texts.0)) (placed_from (suc file) files h.1 texts.1)
+  placed_from : (file : ℕ) (files : List FileTree) → Each (λ (f : FileTree). All NodeFits f.nodes) files → Each PlacedNodeFits (nodes_from file files)
+  placed_from file [] h = tt
+  placed_from file (f ∷ files) h =
+      each_append PlacedNodeFits (nodes_at file f.nodes) (nodes_from (suc file) files) (placed_at file f.nodes (from_all NodeFits f.nodes h.0)) (placed_from (suc file) files h.1)
 
-  pub fits_node : (files : List FileTree) → fitting.FitsFiles terms.signatures terms.entries files → AreTexts files → (title : List ℕ) (node : Placed) → find title files ≡ Some node →
+  with_texts : (ns : List Placed) → Each PlacedNodeFits ns → Each PlacedTexts ns → Each PlacedFits ns
+  with_texts [] h texts = tt
+  with_texts (n ∷ ns) h texts = (fit_all terms n.node.body h.0 texts.0, with_texts ns h.1 texts.1)
+
+  pub fits_node : (files : List FileTree) → fitting.FitsFiles terms.signatures terms.entries files → All PlacedTexts (nodes_from 0 files) → (title : List ℕ) (node : Placed) → find title files ≡ Some node →
       FitsAll terms node.node.body
   fits_node files fits texts title node e =
       each_titled PlacedFits title (nodes_from 0 files) node
-      (placed_from 0 files (from_all (λ (f : FileTree). All NodeFits f.nodes) files fits) (from_all (λ (f : FileTree). All NodeTexts f.nodes) files texts)) e
+      (with_texts (nodes_from 0 files) (placed_from 0 files (from_all (λ (f : FileTree). All NodeFits f.nodes) files fits)) (from_all PlacedTexts (nodes_from 0 files) texts)) e

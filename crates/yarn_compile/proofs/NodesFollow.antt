@@ -1,5 +1,5 @@
 -- The machine follows a project from piece to piece.
-use Rattle.std.proofs.Common.{◌≡◌, ℕ, zero, suc, ◌+◌, Bool, true, false, if◌then◌else◌, List, [], ◌∷◌, length, map, nat_eq, Option, Some, None, refl, sym, ap, ◌∙◌, subst, arith}
+use Rattle.std.proofs.Common.{◌≡◌, ℕ, zero, suc, ◌+◌, Bool, true, false, if◌then◌else◌, List, [], ◌∷◌, length, map, nat_eq, Option, Some, None, All, refl, sym, ap, ◌∙◌, subst, arith}
 use Rattle.std.specs.Cmp.Lexicographic.{pointwise}
 use Rattle.std.specs.Option.{option_map}
 use Rattle.std.proofs.lemmas.Slice.Eq.{bytes_eq-Decides}
@@ -35,13 +35,12 @@ use Rattle.yarn_kinds.proofs.Begun.{begun_held}
 use Rattle.yarn_compile.specs.Code.{Terms, terms_of, program_of, variables_for, end_code, size_all, stmts_code, body_code, node_code}
 use Rattle.yarn_compile.specs.Correct.{Gives, Means, SameMoments}
 use Rattle.yarn_compile.proofs.Follows.{Stands, front_stands, back_stands, stands_as, whole_stands, running, coded_node, Site, here_of, scope_in, ComesTo, Follows, quiet, shows, breaks_here, at_node_code}
-use Rattle.yarn_compile.proofs.Texts.{AreTexts}
 use Rattle.yarn_compile.proofs.Sound.{FitsAll}
 use Rattle.yarn_compile.proofs.SizesOfCode.{length-stmts}
 use Rattle.yarn_compile.proofs.Leaving.{stop_follows}
 use Rattle.yarn_compile.proofs.Ways.{Outs, Way}
 use Rattle.yarn_compile.proofs.StatementsFollow.{stmts_follow}
-use Rattle.yarn_compile.proofs.Kept.{puts, fits_node, counts_node}
+use Rattle.yarn_compile.proofs.Kept.{puts, PlacedTexts, fits_node, counts_node}
 use Rattle.yarn_compile.proofs.AskedFunctions.{known_functions}
 use Rattle.yarn_compile.proofs.Runs.{agree}
 
@@ -70,10 +69,10 @@ pairs_same : (terms : Terms) (ps : Pairs) → pairs_of (variables_for terms ps) 
 pairs_same terms [] = refl
 pairs_same terms (p ∷ ps) = ap (λ l. p ∷ l) (pairs_same terms ps)
 
--- what is known of files: a typing fits them, and their commands have texts that are templates
+-- what is known of files: a typing fits them, and their texts are templates
 pub record AreKnown (signatures : List Signature) (entries : List TypedName) (files : List FileTree) : Type 0 where
   pub typed : IsFitting signatures entries files
-  pub texts : AreTexts files
+  pub texts : All PlacedTexts (nodes_from 0 files)
 
 module _ (signatures : List Signature) (entries : List TypedName) (files : List FileTree) (known : AreKnown signatures entries files) where
   abbrev terms : Terms
@@ -258,10 +257,10 @@ module _ (signatures : List Signature) (entries : List TypedName) (files : List 
   pub means : Means signatures entries files p
   means = record { shows = code_shows; alone = code_alone }
 
--- the texts of an accepted project's commands are templates
+-- the texts of an accepted project are templates
 abbrev pub TextsHold : Type 0
 TextsHold = (signatures : List Signature) (sources : List SourceFile) (lines : List FileLines) (entries : List TypedName) →
-    AreAccepted signatures sources lines entries → AreTexts (map grown lines)
+    AreAccepted signatures sources lines entries → All PlacedTexts (nodes_from 0 (map grown lines))
 
 pub same_moments : ReadExactly → TextsHold → SameMoments
 same_moments exactly texts signatures sources lines entries accepted =
