@@ -1,3 +1,4 @@
+//! The lines of a body, as they are read one by one.
 ghost use Rattle.std.specs.Prelude.{◌≡◌, IfOk};
 ghost use Rattle.yarn_blocks.specs.Entries.{mark_of, marks_of, shape_of};
 

@@ -1,3 +1,4 @@
+//! Marks: the lines of a body without their contents.
 /// What a line of a body is to the structure.
 #[derive(Clone, Copy, Debug, PartialEq, Eq)]
 pub enum Shape {

@@ -1,3 +1,4 @@
+//! The statements of a body.
 use crate::line_id::LineId;
 use yarn_base::{List, Text};
 use yarn_expr::{BinaryOp, Expr};

@@ -6,3 +6,16 @@ pub mod Cells
 pub mod Walk
 pub mod Exact
 pub mod Checks
+pub mod Operations
+pub mod Builtins
+pub mod Stores
+pub mod Places
+pub mod Calls
+pub mod Takes
+pub mod Acts
+pub mod Steps
+pub mod Stuck
+pub mod Comes
+pub mod Outcomes
+pub mod Rebuilding
+pub mod Beginnings

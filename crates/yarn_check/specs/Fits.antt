@@ -7,10 +7,10 @@ use Rattle.yarn_code.specs.declared.program.Instr.{Instr}
 use Rattle.yarn_code.specs.declared.program.Instr.TheVariants as code
 use Rattle.yarn_code.specs.declared.program.CodeNode.{CodeNode}
 use Rattle.yarn_code.specs.declared.program.Program.{Program}
-use Rattle.yarn_code.specs.MachineState.{Stack, Offer, Leave, Stop, To, Rest, Line, Options, Command, Starts, Ends, Doing, Rests, here_in, MachineState, machine}
+use Rattle.yarn_code.specs.MachineState.{Stack, Offer, Stop, To, Rest, Line, Options, Command, Starts, Ends, Rests, here_in, MachineState, machine}
 use Rattle.yarn_check.specs.Shapes as shapes
 use Rattle.yarn_check.specs.Shapes.{ShapeEntry, Shape, shape}
-use Rattle.yarn_check.specs.Shaped.{AreFitting, HasEntries, HasOffers, HasShapeAt, Stands, Behind, IsIn, IsStored}
+use Rattle.yarn_check.specs.Shaped.{AreFitting, HasEntries, HasOffers, HasShapeAt, Stands, Behind, IsIn}
 
 -- a resting state; at rest nothing is pending
 pub record Parts : Type 0 where
@@ -63,10 +63,9 @@ FitsRest p n Starts s = FitsStart s
 FitsRest p n (Ends Stop) s = FitsEnd p n code.Stop s
 FitsRest p n (Ends (To title)) s = FitsEnd p n code.RunNode s × (length title ≤ 65536)
 
--- the node is there, what it rests on is of the place, and the store has the variables
-pub record Fits (p : Program) (s : Parts) : Type 0 where
-  pub rests : IsIn p s.node (λ n. FitsRest p n s.rest s)
-  pub stored : IsStored p s.store
+-- the node is there, and what it rests on is of the place; of the store nothing is said
+abbrev pub Fits : Program → Parts → Type 0
+Fits p s = IsIn p s.node (λ n. FitsRest p n s.rest s)
 
 -- the state of these parts, with these answers and this tape
 abbrev pub rebuilt : Parts → List ℕ → Tape → MachineState

@@ -1,11 +1,12 @@
 -- What holds of the states of a valid program (docs/meaning.md, Never stuck).
-use Rattle.std.specs.Prelude.{◌≡◌, ℕ, zero, suc, ◌+◌, List, [], ◌∷◌, length, true, false, ◌&&◌, All, Some, is_some, slice_get, IsTrue, ⊤}
+use Rattle.std.specs.Prelude.{◌≡◌, ℕ, zero, suc, ◌+◌, List, [], ◌∷◌, length, true, false, ◌&&◌, Some, is_some, slice_get, IsTrue, ⊤}
 use Rattle.yarn_value.specs.declared.value.Value.{Value}
 use Rattle.yarn_value.specs.declared.value.Value.TheVariants.{Number, Str, Truth}
 use Rattle.yarn_value.specs.declared.fault.RunFault.TheVariants as fault
 use Rattle.yarn_value.specs.declared.reply.Reply.{Reply}
 use Rattle.yarn_value.specs.Operations.{same_text}
 use Rattle.yarn_value.specs.Signatures.{signature_named}
+use Rattle.yarn_value.specs.Pairs.{Pairs}
 use Rattle.yarn_value.specs.Tape.{Tape}
 use Rattle.yarn_value.specs.Replies.{is_reply_of, same_values}
 use Rattle.yarn_code.specs.declared.program.Instr.TheVariants as code
@@ -14,14 +15,15 @@ use Rattle.yarn_code.specs.declared.program.Program.{Program}
 use Rattle.yarn_code.specs.Answer.{answer_of}
 use Rattle.yarn_code.specs.Answers.{any_open}
 use Rattle.yarn_code.specs.Moments.{State, with_tape}
-use Rattle.yarn_code.specs.Parts.{coded, code_titled}
+use Rattle.yarn_code.specs.Parts.{pairs_of, coded, code_titled}
+use Rattle.yarn_code.specs.Kinds.{KeepsKinds}
 use Rattle.yarn_code.specs.Fields.{IsFitting, HasFields}
 use Rattle.yarn_code.specs.MachineState as machine
-use Rattle.yarn_code.specs.MachineState.{Offer, choices, Rest, Line, Options, Command, Starts, Ends, Doing, Runs, Enters, Rests, Asks, Over, MachineState, runs_at, with_state, entry}
+use Rattle.yarn_code.specs.MachineState.{Offer, choices, Rest, Line, Options, Command, Starts, Ends, Doing, Runs, Enters, Rests, Asks, Over, MachineState, runs_at, with_state, begun, entry}
 use Rattle.yarn_code.specs.Machine.{Stepped, Quiet, Shows, Finishes, StandsAt, Stuck, next, breaks}
-use Rattle.yarn_code.specs.Runs.{Ran, Reaches}
-use Rattle.yarn_check.specs.Shapes.{Shape, Shapes, HasShape, Agrees, IsValid}
-use Rattle.yarn_check.specs.Shaped.{IsStored, IsIn, Shaped}
+use Rattle.yarn_code.specs.Runs.{Course, Reaches}
+use Rattle.yarn_check.specs.Shapes.{Shapes, Agrees, IsValid}
+use Rattle.yarn_check.specs.Shaped.{StoreFits, IsStored, IsIn, Shaped}
 use Rattle.yarn_check.specs.Fits.{Parts, Fits, rebuilt, parts_of}
 
 -- a valid program, each of whose fields is as it may be
@@ -57,13 +59,17 @@ abbrev pub IsStep : Program → Stepped → Type 0
 IsStep p (Quiet w) = IsGood p w
 IsStep p (Shows shown w) = IsGood p w
 IsStep p (Finishes w) = IsGood p w
-IsStep p (StandsAt stand w) = TapeFits w.state.tape
+IsStep p (StandsAt stand w) = IsGood p w
 IsStep p Stuck = ⊥
 
 abbrev pub Steps : Type 0
 Steps = (p : Program) (w : MachineState) → IsRunnable p → IsGood p w → IsStep p (next p w)
 
--- a start that is there, with a store whose values fit and are of their variables' kinds, where it has these
+-- the store with which a run begins has each variable in its kind, where all given values fit, and those of variables are of their kinds
+abbrev pub StoresBegin : Type 0
+StoresBegin = (p : Program) (pairs : Pairs) → HasFields p → KeepsKinds (pairs_of p.variables) pairs → StoreFits pairs → IsStored p (begun p pairs)
+
+-- the first state is good, where its start is there and its store has each variable in its kind
 abbrev pub Begins : Type 0
 Begins = (p : Program) (start : List ℕ) (st : State) → IsIn p start (λ n. ⊤) → IsStored p (entry p start st).state.store → TapeFits st.tape → IsGood p (entry p start st)
 
@@ -164,24 +170,25 @@ ComesSoon = (p : Program) (w : MachineState) (n : CodeNode) → IsRunnable p →
 
 -- ---- runs
 
--- from a state there is one outcome of so many events, for each number of events
+-- from a state there is one outcome of k + 1 events, for each k
 pub record HasOutcome (p : Program) (w : MachineState) (k : ℕ) : Type 0 where
-  pub outcome : Ran
+  pub outcome : Course
   pub first : Reaches p w k outcome
-  pub alone : (r : Ran) → Reaches p w k r → r ≡ outcome
+  pub alone : (r : Course) → Reaches p w k r → r ≡ outcome
 
 abbrev pub HaveOutcomes : Type 0
 HaveOutcomes = (p : Program) (w : MachineState) (k : ℕ) → IsRunnable p → IsGood p w → HasOutcome p w k
 
 -- ---- states as plain data
 
--- a state whose parts fit is shaped
+-- a state whose parts fit, and which has the variables of the program, is shaped
 abbrev pub RebuildsShaped : Type 0
-RebuildsShaped = (p : Program) (s : Parts) (answers : List ℕ) (tape : Tape) → IsRunnable p → Fits p s → Shaped p (rebuilt s answers tape)
+RebuildsShaped = (p : Program) (s : Parts) (answers : List ℕ) (tape : Tape) → IsRunnable p → Fits p s → IsStored p s.store → Shaped p (rebuilt s answers tape)
 
--- a shaped state that rests fits, and is that of its parts
+-- a shaped state that rests fits, has the variables, and is that of its parts
 pub record IsOfParts (p : Program) (rest : Rest) (w : MachineState) : Type 0 where
   pub fits : Fits p (parts_of rest w)
+  pub stored : IsStored p w.state.store
   pub again : rebuilt (parts_of rest w) w.state.answers w.state.tape ≡ w
 
 abbrev pub PartsFit : Type 0

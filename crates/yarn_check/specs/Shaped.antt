@@ -1,20 +1,19 @@
 -- The states that a machine can be in (docs/meaning.md, Never stuck).
-use Rattle.std.specs.Prelude.{◌≡◌, ◌≤◌, ℕ, ◌+◌, List, [], ◌∷◌, length, All, Contains, Some, None, slice_get, ⊤}
-use Rattle.std.specs.Option.{option_map}
+use Rattle.std.specs.Prelude.{◌≡◌, ◌≤◌, ℕ, ◌+◌, List, [], ◌∷◌, length, Contains, Some, None, slice_get, ⊤}
 use Rattle.yarn_value.specs.declared.value.Value as V
 use Rattle.yarn_value.specs.declared.value.Kind.{Kind}
 use Rattle.yarn_value.specs.declared.signature.Signature.{Signature}
 use Rattle.yarn_value.specs.Values.{kind_of}
 use Rattle.yarn_value.specs.Builtins.{builtin_named}
 use Rattle.yarn_value.specs.Signatures.{signature_named}
-use Rattle.yarn_value.specs.Pairs.{Pairs, value_under}
+use Rattle.yarn_value.specs.Pairs.{Pairs}
 use Rattle.yarn_code.specs.declared.program.Instr.{Instr}
 use Rattle.yarn_code.specs.declared.program.Instr.TheVariants as code
-use Rattle.yarn_code.specs.declared.program.Coded.{Coded}
 use Rattle.yarn_code.specs.declared.program.CodeNode.{CodeNode}
 use Rattle.yarn_code.specs.declared.program.Program.{Program}
 use Rattle.yarn_code.specs.Parts.{pairs_of, code_titled}
 use Rattle.yarn_code.specs.Fields.{IsFitting}
+use Rattle.yarn_code.specs.Kinds.{Holds}
 use Rattle.yarn_code.specs.MachineState as machine
 use Rattle.yarn_code.specs.MachineState.{StackEntry, Stack, Offer, Leave, Stop, To, Rest, Line, Options, Command, Starts, Ends, Doing, Runs, Enters, Rests, Asks, Over, MachineState}
 use Rattle.yarn_check.specs.Shapes as shapes
@@ -42,14 +41,6 @@ StoreFits [] = ⊤
 StoreFits (pair ∷ pairs) = IsFitting pair.1 × StoreFits pairs
 
 -- ---- variables
-
--- the store has a value of that kind under the name
-abbrev pub HasKind : Pairs → List ℕ → Kind → Type 0
-HasKind store name kind = option_map kind_of (value_under store name) ≡ Some kind
-
--- the store has a value for each of these variables, of the kind of its first value
-abbrev pub Holds : Pairs → Pairs → Type 0
-Holds variables store = All (λ v. HasKind store v.0 (kind_of v.1)) variables
 
 -- each variable of the program is in the store with its kind, and all its values fit
 pub record IsStored (p : Program) (store : Pairs) : Type 0 where

@@ -3,4 +3,8 @@
 
 mod laws;
 
-pub use laws::{check_is_exact, look_is_exact, pass_is_exact};
+pub use laws::{
+    begun_stores_fit, check_is_exact, entries_are_shaped, events_come, look_is_exact, never_stuck,
+    none_open_is_a_fault, parts_fit, pass_is_exact, rebuilt_states_are_shaped, replies_are_taken,
+    runs_have_one_outcome, shapes_are_one, steps_are_shaped, steps_on,
+};

@@ -9,24 +9,24 @@ use Rattle.yarn_code.specs.MachineState.{Doing, Runs, Enters, Rests, Asks, Over,
 use Rattle.yarn_code.specs.Machine.{Stepped, Quiet, Shows, Finishes, StandsAt, Stuck, next}
 
 -- what the machine gave, where it stands, the state there, and how many instructions were run up to there
-pub record Ran : Type 0 where
+pub record Course : Type 0 where
   pub moments : List Moment
   pub stand : Stand
   pub last : MachineState
   pub count : ℕ
 
-abbrev pub ran : List Moment → Stand → MachineState → Ran
+abbrev pub ran : List Moment → Stand → MachineState → Course
 ran ms stand w = record { moments = ms; stand = stand; last = w; count = 0 }
 
 -- what a reader sees of it
-abbrev pub outcome_of : Ran → Outcome
+abbrev pub outcome_of : Course → Outcome
 outcome_of r = record { moments = r.moments; stand = r.stand; state = r.last.state }
 
-abbrev pub with_first : Moment → Option Ran → Option Ran
+abbrev pub with_first : Moment → Option Course → Option Course
 with_first m None = None
 with_first m (Some r) = Some (record r { moments = m ∷ r.moments })
 
-abbrev pub with_count : ℕ → Option Ran → Option Ran
+abbrev pub with_count : ℕ → Option Course → Option Course
 with_count n None = None
 with_count n (Some r) = Some (record r { count = n + r.count })
 
@@ -39,7 +39,7 @@ ticks (Asks name args) = 0
 ticks (Over cause) = 0
 
 -- what a step does, and what follows it, up to the event of that number, from 0
-abbrev pub follow : (MachineState → ℕ → Option Ran) → Stepped → ℕ → Option Ran
+abbrev pub follow : (MachineState → ℕ → Option Course) → Stepped → ℕ → Option Course
 follow go (Quiet w) k = go w k
 follow go (Shows shown w) zero = Some (ran (moment shown w.state ∷ []) moments.Limit w)
 follow go (Shows shown w) (suc k) = with_first (moment shown w.state) (go w k)
@@ -49,24 +49,24 @@ follow go Stuck k = None
 
 module _ (p : Program) where
   -- up to the event of that number, from 0, where at most so many steps come to it
-  abbrev pub run : ℕ → MachineState → ℕ → Option Ran
+  abbrev pub run : ℕ → MachineState → ℕ → Option Course
   run zero w k = None
   run (suc most) w k = with_count (ticks w.doing) (follow (run most) (next p w) k)
 
   -- so over some number of steps
-  pub record Reaches (w : MachineState) (k : ℕ) (r : Ran) : Type 0 where
+  pub record Reaches (w : MachineState) (k : ℕ) (r : Course) : Type 0 where
     pub steps : ℕ
     pub runs : run steps w k ≡ Some r
 
   -- what the first k events from a state on come to, for k at least 1, over any number of steps
-  abbrev pub MFirst : MachineState → ℕ → Ran → Type 0
+  abbrev pub MFirst : MachineState → ℕ → Course → Type 0
   MFirst w zero r = ⊥
   MFirst w (suc k) r = Reaches w k r
 
   -- two states come to the same for all answers, tapes and numbers of events, whatever number of instructions they run
   abbrev pub Comes : MachineState → MachineState → Type 0
-  Comes w v = (bytes : List ℕ) (tape : Tape) (k : ℕ) (r : Ran) → MFirst (with_input bytes tape w) k r →
-      (q : Ran) × MFirst (with_input bytes tape v) k q × (outcome_of q ≡ outcome_of r)
+  Comes w v = (bytes : List ℕ) (tape : Tape) (k : ℕ) (r : Course) → MFirst (with_input bytes tape w) k r →
+      (q : Course) × MFirst (with_input bytes tape v) k q × (outcome_of q ≡ outcome_of r)
 
   pub record Same (w v : MachineState) : Type 0 where
     pub there : Comes w v

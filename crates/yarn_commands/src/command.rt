@@ -1,3 +1,4 @@
+//! The commands of a script.
 use yarn_base::Text;
 use yarn_expr::{BinaryOp, Expr};
 use yarn_value::{Kind, Value};

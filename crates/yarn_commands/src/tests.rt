@@ -1,3 +1,4 @@
+//! Each public call once with ample memory.
 use crate::{Command, may_be_for_game, print_command, read_command, read_expression};
 use std::alloc::Global;
 use std::process::Abort;

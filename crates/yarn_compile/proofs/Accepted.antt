@@ -25,9 +25,11 @@ use Rattle.yarn_tree.specs.Laws.{HasFineLines, ReadExactly, nodes_of}
 use Rattle.yarn_tree.specs.Project.{AllHaveLines}
 use Rattle.yarn_tree.specs.Trees.{NodeTree, stmts_or_none, grown_node, grown}
 use Rattle.yarn_compile.specs.Code.{Terms, terms_of}
+use Rattle.yarn_code.specs.Fields.{IsFunctionField}
 use Rattle.yarn_kinds.proofs.Fitting.{FitsAll}
+use Rattle.yarn_kinds.proofs.Typed.{accepted_typed}
 use Rattle.yarn_compile.specs.Correct.{Valid}
-use Rattle.yarn_compile.proofs.Parts.{Each, each_front, each_back}
+use Rattle.yarn_compile.proofs.Parts.{Each, each_front, each_back, each_weaker}
 use Rattle.yarn_compile.proofs.Items.{LightItem, item_light, entries_light}
 use Rattle.yarn_compile.proofs.Light.{LightEntry, block_light}
 use Rattle.yarn_compile.proofs.KnownLines.{EachNode}
@@ -114,9 +116,10 @@ module _ (terms : Terms) (few : Each (λ (s : Signature). length s.params ≤ 16
 pub valid : ItemsAreFound → ReadExactly → Valid
 valid items_found exactly signatures sources lines entries accepted =
     let is = (exactly signatures sources lines).0 accepted.read in
-    let few = each_from_all (λ (s : Signature). length s.params ≤ 16) signatures accepted.few in
+    let typed = accepted_typed exactly signatures sources lines entries accepted in
+    let few = each_weaker IsFunctionField (λ (s : Signature). length s.params ≤ 16) (λ s field. field.few) signatures (each_from_all IsFunctionField signatures accepted.proper.each) in
     let light = files_light items_found sources lines is.have (each_from_all HasFineLines sources is.fine) in
     let deep = by_file (λ (n : NodeLines). (b : Stmts) → Block n.body [] b → deep_in 0 b ≡ None) lines (each_from_all (λ (n : NodeLines). (b : Stmts) → Block n.body [] b → deep_in 0 b ≡ None) (nodes_of lines) is.limits.shallow) in
     let crowd = by_file (λ (n : NodeLines). (b : Stmts) → Block n.body [] b → crowd_in b ≡ None) lines (each_from_all (λ (n : NodeLines). (b : Stmts) → Block n.body [] b → crowd_in b ≡ None) (nodes_of lines) is.limits.small) in
-    valid_with_room signatures sources lines entries accepted.read accepted.typed
-    (files_room (terms_of signatures entries (map grown lines)) few lines light deep crowd (fits_each (terms_of signatures entries (map grown lines)) (map grown lines) accepted.typed))
+    valid_with_room signatures sources lines entries accepted.read typed
+    (files_room (terms_of signatures entries (map grown lines)) few lines light deep crowd (fits_each (terms_of signatures entries (map grown lines)) (map grown lines) typed))

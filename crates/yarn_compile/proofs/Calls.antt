@@ -1,5 +1,6 @@
 -- Calls of operators, builtins and host functions on arguments whose kinds fit.
 use Rattle.std.proofs.Common.{◌≡◌, ℕ, suc, ◌≤◌, List, [], ◌∷◌, length, map, codes, nat_eq, if◌then◌else◌, Option, Some, None, is_some, refl, sym, ap, ◌∙◌, arith, Bool, true, false, ◌&&◌}
+use mathlib.Core.Path.{ap₂}
 use Rattle.std.specs.Cmp.Lexicographic.{pointwise}
 use Rattle.std.specs.Option.{option_map}
 use Rattle.yarn_value.specs.declared.value.Kind.{Kind}
@@ -11,6 +12,7 @@ use Rattle.yarn_value.specs.declared.operation.Op.{Op}
 use Rattle.yarn_value.specs.declared.operation.Op.TheVariants as op
 use Rattle.yarn_value.specs.Rows.{same_kind, takes}
 use Rattle.yarn_value.specs.Builtins.{Row, applied, builtin_named}
+use Rattle.yarn_value.specs.Calls.{same_kinds, kind_of_call}
 use Rattle.yarn_expr.specs.declared.tree.UnaryOp.{UnaryOp}
 use Rattle.yarn_expr.specs.declared.tree.UnaryOp.TheVariants.{Neg, Not}
 use Rattle.yarn_expr.specs.declared.tree.BinaryOp.{BinaryOp}
@@ -18,7 +20,6 @@ use Rattle.yarn_expr.specs.declared.tree.BinaryOp.TheVariants.{Mul, Div, Rem, Ad
 use Rattle.yarn_value.specs.Signatures.{row_arity, declared_arity, builtin_or, arity_of, signature_named}
 use Rattle.yarn_types.proofs.KindLemmas.{kind_same, holds_only}
 use Rattle.yarn_types.specs.KindSets.{holds, only, all_kinds}
-use Rattle.yarn_types.specs.Fits as fits
 use Rattle.yarn_types.specs.Fits.{joined, is_in, unary_kind, takes_each, kinds_of, row_takes, called}
 use Rattle.yarn_code.specs.declared.program.Program.{Program}
 use Rattle.yarn_compile.specs.Code.{unary_name, binary_name}
@@ -49,11 +50,6 @@ eq_kinds (Some Truth) (Some Str) e = absurd cc
 eq_kinds (Some Truth) (Some Truth) e = record { kind = Truth; first = refl; second = refl }
 
 -- ---- rows
-
--- both crates look in the same table
-pub same_builtin : (name : List ℕ) → builtin_named name ≡ builtin_named name
-unfolding builtin_named builtin_named
-same_builtin name = refl
 
 abbrev some_all : List Kind → List (Option Kind)
 some_all = map (λ k. Some k)
@@ -223,6 +219,18 @@ second_true : (a b : Bool) → (a && b) ≡ true → b ≡ true
 second_true true b h = h
 second_true false b h = cc
 
+-- kinds are taken by a signature as the kinds of arguments are, where each has one
+each_same : (params ks : List Kind) → same_kinds params ks ≡ takes_each params (some_all ks)
+each_same [] [] = refl
+each_same [] (k ∷ ks) = refl
+each_same (x ∷ params) [] = refl
+each_same (x ∷ params) (k ∷ ks) = ap₂ (λ (a b : Bool). a && b) (sym (holds_only x k)) (each_same params ks)
+
+called_same : (row : Option Row) (s : Option Signature) (ks : List Kind) → kind_of_call row s ks ≡ called row s (some_all ks)
+called_same (Some row) s ks = ap (λ (l : Option (List Kind)). if row_takes row.first row.second l then Some row.result else None) (sym (kinds_of-some ks))
+called_same None (Some s) ks = ap (λ (b : Bool). if b then Some s.result else None) (each_same s.params ks)
+called_same None None ks = refl
+
 each_counts : (params ks : List Kind) → takes_each params (some_all ks) ≡ true → length params ≡ length ks
 each_counts [] [] e = refl
 each_counts [] (k ∷ ks) e = absurd cc
@@ -282,7 +290,7 @@ module _ (p : Program) where
   operator_call o a b k e =
       let s = signature_named p.functions (binary_name o (Some a)) in
       record {
-        kind = ap (λ (r : Option Row). called r s (Some a ∷ Some b ∷ [])) (row_found o a) ∙ operator_kind o a b k s e;
+        kind = called_same (builtin_named (binary_name o (Some a))) s (a ∷ b ∷ []) ∙ ap (λ (r : Option Row). called r s (Some a ∷ Some b ∷ [])) (row_found o a) ∙ operator_kind o a b k s e;
         counted = arity_of_row p.functions (binary_name o (Some a)) (row_of o a) (row_found o a) ∙ two o a;
       }
     where
@@ -308,7 +316,7 @@ module _ (p : Program) where
   unary_call o a k e =
       let s = signature_named p.functions (unary_name o) in
       record {
-        kind = ap (λ (r : Option Row). called r s (Some a ∷ [])) (unary_row_found o) ∙ unary_operator_kind o a k s e;
+        kind = called_same (builtin_named (unary_name o)) s (a ∷ []) ∙ ap (λ (r : Option Row). called r s (Some a ∷ [])) (unary_row_found o) ∙ unary_operator_kind o a k s e;
         counted = arity_of_row p.functions (unary_name o) (unary_row o) (unary_row_found o) ∙ one o;
       }
     where
@@ -320,14 +328,14 @@ module _ (p : Program) where
   pub function_call : (signatures : List Signature) (name : List ℕ) (ks : List Kind) (k : Kind) → IsHost signatures p name →
       called (builtin_named name) (signature_named signatures name) (some_all ks) ≡ Some k → IsCall p name ks k
   function_call signatures name ks k known e =
-      by_row (builtin_named name) refl (ap (λ (r : Option Row). called r (signature_named signatures name) (some_all ks)) (sym (same_builtin name)) ∙ e)
+      by_row (builtin_named name) refl e
     where
       by_signature : (s : Option Signature) → builtin_named name ≡ None → signature_named p.functions name ≡ s → called None s (some_all ks) ≡ Some k → IsCall p name ks k
       by_signature None none is f = absurd cc
       by_signature (Some s) none is f =
           let counts = each_counts s.params ks (if_true (takes_each s.params (some_all ks)) s.result k f) in
           record {
-            kind = ap (λ (r : Option Row). called r (signature_named p.functions name) (some_all ks)) none ∙ ap (λ (t : Option Signature). called None t (some_all ks)) is ∙ f;
+            kind = called_same (builtin_named name) (signature_named p.functions name) ks ∙ ap (λ (r : Option Row). called r (signature_named p.functions name) (some_all ks)) none ∙ ap (λ (t : Option Signature). called None t (some_all ks)) is ∙ f;
             counted = arity_of_host p.functions name none ∙ declared p.functions name s is ∙ ap (λ m. Some m) counts;
           }
 
@@ -336,7 +344,7 @@ module _ (p : Program) where
           let took = if_true (row_takes row.first row.second (kinds_of (some_all ks))) row.result k f in
           let fit : takes row.first row.second ks ≡ true = ap (row_takes row.first row.second) (sym (kinds_of-some ks)) ∙ took in
           record {
-            kind = ap (λ (t : Option Row). called t (signature_named p.functions name) (some_all ks)) is ∙ f;
+            kind = called_same (builtin_named name) (signature_named p.functions name) ks ∙ ap (λ (t : Option Row). called t (signature_named p.functions name) (some_all ks)) is ∙ f;
             counted = arity_of_row p.functions name row is ∙ ap (λ m. Some m) (sym (row_counts row.first row.second row.name row.result row.op ks fit));
           }
       by_row None is f = by_signature (signature_named signatures name) is (known is) f

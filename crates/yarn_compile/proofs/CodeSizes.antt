@@ -4,7 +4,6 @@ use Rattle.yarn_blocks.specs.Tree as T
 use Rattle.yarn_blocks.specs.Tree.{Leaf, Group, Choice, Nil, Cons, NoOptions, AndOption, NoClauses, AndClause, NoElse, ElseOf, Offered}
 use Rattle.yarn_meaning.specs.Does.{group_line}
 use Rattle.yarn_code.specs.declared.program.Instr.TheVariants as code
-use Rattle.yarn_code.specs.declared.program.Coded.{Coded}
 use Rattle.yarn_code.specs.Parts.{coded}
 use Rattle.yarn_compile.specs.Code.{Terms, expr_code, exprs_code, condition_code, head_size, heads_size, ask_size, size, size_all, bodies_size, clauses_size, last_size, head_code, heads_code, ask_code, stmt_code, stmts_code, bodies_code, clauses_code, last_code}
 

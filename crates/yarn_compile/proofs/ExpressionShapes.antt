@@ -10,8 +10,8 @@ use Rattle.yarn_expr.specs.declared.tree.Expr.TheOpen.{Expr-F}
 use Rattle.yarn_expr.specs.declared.tree.Expr.TheFolds.{fold-Expr, fold-roll-Expr, ind-Expr}
 use Rattle.yarn_types.specs.KindSets.{only}
 use Rattle.yarn_types.specs.Typings.{kinds_in}
+use Rattle.yarn_value.specs.Builtins.{builtin_named}
 use Rattle.yarn_value.specs.Signatures.{signature_named}
-use Rattle.yarn_types.specs.Fits as fits
 use Rattle.yarn_types.specs.Fits.{joined, is_in, unary_kind, called, kind_of, kind_step}
 use Rattle.yarn_code.specs.declared.program.Instr.TheVariants as code
 use Rattle.yarn_code.specs.declared.program.Instr.{Instr}

@@ -19,7 +19,7 @@ use Rattle.yarn_code.specs.Moments.{State, Stand, Outcome, Behaviour, moment, wi
 use Rattle.yarn_code.specs.MachineState.{Value as Val, Stack, Offer, Here, Runs, Fault, MachineState, machine, over}
 use Rattle.yarn_code.specs.Machine.{Stepped, Quiet, Shows, Finishes, StandsAt, Stuck, take_values, when_some, fault_at, breaks, in_node, act, next}
 use Rattle.yarn_code.specs.Listed.{pushed}
-use Rattle.yarn_code.specs.Runs.{Ran, outcome_of, ticks, with_first, with_count, follow, run, Reaches}
+use Rattle.yarn_code.specs.Runs.{Course, outcome_of, ticks, with_first, with_count, follow, run, Reaches}
 use Rattle.yarn_meaning.specs.First.{Placed, halts_at}
 use Rattle.yarn_compile.specs.Code.{Terms}
 
@@ -119,7 +119,7 @@ scope_in {terms} site = record {
 module _ (p : Program) where
   -- up to the event of that number, from 0, the machine comes to that outcome
   pub record ComesTo (w : MachineState) (k : ℕ) (o : Outcome) : Type 0 where
-    pub came : Ran
+    pub came : Course
     pub reached : Reaches p w k came
     pub is : outcome_of came ≡ o
 
@@ -127,7 +127,7 @@ module _ (p : Program) where
   pub record Follows (n : ℕ) (w : MachineState) (b : Behaviour) : Type 0 where
     pub by : (k : ℕ) → k < n → ComesTo w k (b k)
 
-  one_step : (w : MachineState) (k m : ℕ) (x : Stepped) (r : Ran) (o : Outcome) → next p w ≡ x → follow (run p m) x k ≡ Some r → outcome_of r ≡ o → ComesTo w k o
+  one_step : (w : MachineState) (k m : ℕ) (x : Stepped) (r : Course) (o : Outcome) → next p w ≡ x → follow (run p m) x k ≡ Some r → outcome_of r ≡ o → ComesTo w k o
   one_step w k m x r o e h same = record {
     came = record r { count = ticks w.doing + r.count };
     reached = record { steps = suc m; runs = ap (λ y. with_count (ticks w.doing) (follow (run p m) y k)) e ∙ ap (with_count (ticks w.doing)) h };

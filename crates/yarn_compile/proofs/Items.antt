@@ -11,7 +11,7 @@ use Rattle.yarn_items.specs.declared.item.Item.{Item}
 use Rattle.yarn_items.specs.declared.item.Item.TheVariants as item
 use Rattle.yarn_items.specs.Text.{Piece, AreHoles, no_more, past_char, past_pair, at_hole}
 use Rattle.yarn_items.specs.Item.{IsCondition, no_condition, condition, IsForm}
-use Rattle.yarn_blocks.specs.declared.entry.ShapeEntry.{ShapeEntry}
+use Rattle.yarn_blocks.specs.declared.entry.Entry.{Entry}
 use Rattle.yarn_blocks.specs.declared.entry.What.{What}
 use Rattle.yarn_nodes.specs.Entries.{ItemAt, command_at, what_at, id_in, said_by, AreEntries}
 use Rattle.yarn_nodes.specs.Finds.{holes_in}
@@ -78,7 +78,7 @@ item_what line id (item.Header header) w is h = absurd cc
 item_what line id item.BodyBegins w is h = absurd cc
 item_what line id item.NodeEnds w is h = absurd cc
 
-pub entries_light : (items : List ItemAt) (entries : List ShapeEntry) → AreEntries items entries → Each (λ (x : ItemAt). LightItem x.item) items → Each LightEntry entries
+pub entries_light : (items : List ItemAt) (entries : List Entry) → AreEntries items entries → Each (λ (x : ItemAt). LightItem x.item) items → Each LightEntry entries
 entries_light [] [] is h = tt
 entries_light [] (entry ∷ entries) is h = absurd is
 entries_light (x ∷ items) [] is h = absurd is

@@ -24,8 +24,9 @@ use Rattle.yarn_types.specs.Units.{agrees}
 use Rattle.yarn_types.specs.Fits.{kind_of_variable}
 use Rattle.yarn_value.specs.Pairs.{value_under, same_name, Pairs}
 use Rattle.yarn_value.specs.Visits.{count_name}
-use Rattle.yarn_meaning.specs.Variables.{declared_by, declared_in, declared_in_one, declared_in_options, declared_in_clauses, declared_in_last, declared_in_nodes, declared_in_files, plain_value, first_value, typed_pairs, counts_in, counts_of}
-use Rattle.yarn_compile.specs.Code.{Terms, kind_of_name, program_of}
+use Rattle.yarn_meaning.specs.Variables.{declared_by, declared_in, declared_in_one, declared_in_options, declared_in_clauses, declared_in_last, declared_in_nodes, declared_in_files, plain_value, first_value, typed_pairs, counts_in, counts_of, variables_of}
+use Rattle.yarn_code.specs.Parts.{pairs_of}
+use Rattle.yarn_compile.specs.Code.{Terms, kind_of_name, variables_for, program_of}
 use Rattle.yarn_kinds.specs.Typed.{variables_in}
 use Rattle.yarn_kinds.proofs.Fitting.{FitsSimple, FitsAll, FitsOne, FitsOptions, FitsClauses, FitsLast}
 use Rattle.yarn_check.specs.Shapes.{kind_under}
@@ -137,13 +138,21 @@ module _ (declared more : Pairs) (name : List ℕ) (k : Kind) (own : (v : Value)
           ap (λ (b : Bool). option_map kind_of (if b then Some (first_value declared entry) else value_under (typed_pairs declared es ++ more) name)) (same_either entry.name name false is)
           ∙ g (behind (place_of (variables_in es) name) f)
 
+-- the variables of a program are the pairs that they come from
+pairs_back : (terms : Terms) (ps : Pairs) → pairs_of (variables_for terms ps) ≡ ps
+pairs_back terms [] = refl
+pairs_back terms (v ∷ ps) = ap (λ (l : Pairs). v ∷ l) (pairs_back terms ps)
+
+pub kind_there : (terms : Terms) (files : List FileTree) (name : List ℕ) → kind_under (program_of terms files) name ≡ option_map kind_of (value_under (variables_of terms.entries files) name)
+kind_there terms files name = ap (λ (ps : Pairs). option_map kind_of (value_under ps name)) (pairs_back terms (variables_of terms.entries files))
+
 pub variables_known : (terms : Terms) (files : List FileTree) → EachNode (λ n. FitsAll terms.signatures terms.entries n.body) files →
     AreVariables terms (program_of terms files)
 variables_known terms files fits name k is =
     let all = declared_files terms files fits in
     let own : (v : Value) → value_under (declared_in_files files) name ≡ Some v → kind_of v ≡ k =
     λ v e. let has = value_kind terms (declared_in_files files) name v all e in cc (has, is) in
-    typed_kind (declared_in_files files) (counts_of files) name k own terms.entries is
+    kind_there terms files name ∙ typed_kind (declared_in_files files) (counts_of files) name k own terms.entries is
 
 -- ---- counts
 
@@ -192,5 +201,6 @@ counts_known terms files unreserved =
     each_weaker (λ (f : FileTree). Each (λ (n : NodeTree). HasKind (counts_of files) (count_name n.title) Number) f.nodes)
     (λ (f : FileTree). Each (λ (n : NodeTree). kind_under (program_of terms files) (count_name n.title) ≡ Some Number) f.nodes)
     (λ f h. each_weaker (λ (n : NodeTree). HasKind (counts_of files) (count_name n.title) Number) (λ (n : NodeTree). kind_under (program_of terms files) (count_name n.title) ≡ Some Number)
-    (λ n r. ap (option_map kind_of) (past_typed (declared_in_files files) (counts_of files) (count_name n.title) (reserved n.title) terms.entries unreserved) ∙ r) f.nodes h)
+    (λ n r. kind_there terms files (count_name n.title)
+    ∙ (ap (option_map kind_of) (past_typed (declared_in_files files) (counts_of files) (count_name n.title) (reserved n.title) terms.entries unreserved) ∙ r)) f.nodes h)
     files (counted_files files)

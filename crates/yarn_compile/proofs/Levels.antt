@@ -11,10 +11,10 @@ use Rattle.yarn_expr.specs.declared.tree.Expr.TheOpen.{Expr-F}
 use Rattle.yarn_expr.specs.declared.tree.Expr.TheFolds.{fold-roll-Expr, ind-Expr}
 use Rattle.yarn_expr.proofs.Levels.{most_of, level_step, levels}
 use Rattle.yarn_types.specs.Names.{Appearance}
+use Rattle.yarn_value.specs.Builtins.{builtin_named}
 use Rattle.yarn_value.specs.Signatures.{signature_named}
 use Rattle.yarn_types.specs.KindSets.{only}
-use Rattle.yarn_types.specs.Fits as fits
-use Rattle.yarn_types.specs.Fits.{joined, is_in, unary_kind, called, kind_of, kind_step}
+use Rattle.yarn_types.specs.Fits.{joined, is_in, unary_kind, kind_of, kind_step}
 use Rattle.yarn_compile.proofs.Parts.{Each}
 use Rattle.yarn_compile.proofs.Calls.{called_kinds, called_few}
 use Rattle.yarn_compile.proofs.ExpressionShapes.{needs, need_step, need}

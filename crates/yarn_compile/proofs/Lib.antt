@@ -1,19 +1,36 @@
-pub mod Rows
-pub mod Follows
-pub mod Kinded
-pub mod ExpressionsCompute
-pub mod SizesOfCode
-pub mod Leaving
-pub mod Answering
-pub mod Fitted
-pub mod Texts
-pub mod Sound
-pub mod Ways
-pub mod Waiting
-pub mod HeadsFollow
-pub mod SimplesFollow
-pub mod StatementsFollow
-pub mod Kept
-pub mod AskedFunctions
-pub mod Runs
-pub mod NodesFollow
+mod Parts
+mod Whole
+mod Calls
+mod ExpressionShapes
+mod Room
+mod Levels
+mod Light
+mod Items
+mod Rooms
+mod CodeSizes
+mod SimpleShapes
+mod StatementShapes
+mod KnownFunctions
+mod KnownLines
+mod KnownVariables
+mod NodeShapes
+mod Accepted
+mod Rows
+mod Follows
+mod Kinded
+mod ExpressionsCompute
+mod SizesOfCode
+mod Leaving
+mod Answering
+mod Fitted
+mod Texts
+mod Sound
+mod Ways
+mod Waiting
+mod HeadsFollow
+mod SimplesFollow
+mod StatementsFollow
+mod Kept
+mod AskedFunctions
+mod Runs
+mod NodesFollow

@@ -1,7 +1,7 @@
 -- The statements of a block are light where its entries are, and light statements have room.
 use Rattle.std.proofs.Common.{◌≤◌, List, [], ◌∷◌, ◌++◌, length, Option, Some, None, subst, arith}
 use Rattle.yarn_expr.specs.declared.tree.Expr.{Expr}
-use Rattle.yarn_blocks.specs.declared.entry.ShapeEntry.{ShapeEntry}
+use Rattle.yarn_blocks.specs.declared.entry.Entry.{Entry}
 use Rattle.yarn_blocks.specs.declared.entry.Simple.{Simple}
 use Rattle.yarn_blocks.specs.declared.entry.Simple.TheVariants as simple
 use Rattle.yarn_blocks.specs.declared.entry.What.{What}
@@ -43,7 +43,7 @@ LightWhat (what.ElseIf head e) = LightExpr e
 LightWhat (what.Else head) = Unit {0}
 LightWhat (what.EndIf head) = Unit {0}
 
-abbrev pub LightEntry : ShapeEntry → Type 0
+abbrev pub LightEntry : Entry → Type 0
 LightEntry x = LightWhat x.what
 
 abbrev mutual
@@ -77,7 +77,7 @@ and_light n body (Cons (Group os) b) own inner rest = ((omega arith, (own, inner
 and_light n body (Cons (Choice cs last e) b) own inner rest = ((omega arith, (own, inner, tt)), rest)
 
 mutual
-  pub block_light : {xs behind : List ShapeEntry} {b : T.Stmts} → Block xs behind b → Each LightEntry xs → Light b
+  pub block_light : {xs behind : List Entry} {b : T.Stmts} → Block xs behind b → Each LightEntry xs → Light b
   block_light empty h = tt
   block_light (statement {x = x} {n = n} {xs = xs} {b = b} w r) h = (subst LightWhat w h.0, block_light r h.1)
   block_light (option {x = x} {n = n} {run = run} {xs = xs} {body = body} {b = b} w e first r) h =
@@ -86,7 +86,7 @@ mutual
       let tail = tail_light more (each_front LightEntry rest ys (each_back LightEntry xs (rest ++ ys) h.1)) in
       (((subst LightWhat w h.0, block_light first (each_front LightEntry xs (rest ++ ys) h.1), tail.0), tail.1), block_light r (each_back LightEntry rest ys (each_back LightEntry xs (rest ++ ys) h.1)))
 
-  tail_light : {xs behind : List ShapeEntry} {cs : T.Clauses} {last : T.Last} {e : Head} → Tail xs behind cs last e → Each LightEntry xs → LightClauses cs × LightLast last
+  tail_light : {xs behind : List Entry} {cs : T.Clauses} {last : T.Last} {e : Head} → Tail xs behind cs last e → Each LightEntry xs → LightClauses cs × LightLast last
   tail_light (ends {x = x} {e = e} w) h = (tt, tt)
   tail_light (otherwise {x = x} {y = y} {n = n} {e = e} {xs = xs} {b = b} w first v) h = (tt, block_light first (each_front LightEntry xs (y ∷ []) h.1))
   tail_light (next {x = x} {n = n} {xs = xs} {rest = rest} {b = b} {cs = cs} {last = last} w first more) h =

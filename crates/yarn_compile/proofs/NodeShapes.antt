@@ -16,7 +16,7 @@ use Rattle.yarn_code.specs.declared.program.CodeNode.{CodeNode}
 use Rattle.yarn_code.specs.declared.program.Program.{Program}
 use Rattle.yarn_compile.specs.Code.{Terms, terms_of, end_code, stmts_code, size_all, body_code, node_code, code_of}
 use Rattle.yarn_kinds.proofs.Fitting.{FitsAll}
-use Rattle.yarn_kinds.specs.Typed.{IsTyped}
+use Rattle.yarn_kinds.proofs.Typed.{IsFitting}
 use Rattle.yarn_check.specs.Shapes.{shape, kind_under, IsValidNode, IsValid}
 use Rattle.yarn_compile.proofs.Parts.{Each, each_append, each_front, each_all, Part, then_plain, unreached}
 use Rattle.yarn_compile.proofs.Whole.{valid_node}
@@ -73,7 +73,7 @@ each_four : {A : Type 0} (P Q R S T : A → Type 0) → ((x : A) → P x → Q x
 each_four P Q R S T f [] p q r s = tt
 each_four P Q R S T f (x ∷ xs) p q r s = (f x p.0 q.0 r.0 s.0, each_four P Q R S T f xs p.1 q.1 r.1 s.1)
 
-pub fits_each : (terms : Terms) (files : List FileTree) → IsTyped terms.signatures terms.entries files → EachNode (λ n. FitsAll terms.signatures terms.entries n.body) files
+pub fits_each : (terms : Terms) (files : List FileTree) → IsFitting terms.signatures terms.entries files → EachNode (λ n. FitsAll terms.signatures terms.entries n.body) files
 fits_each terms files typed = inner files (each_from_all _ files typed.fits)
   where
     inner : (fs : List FileTree) → Each (λ (f : FileTree). All (λ (n : NodeTree). FitsAll terms.signatures terms.entries n.body) f.nodes) fs → EachNode (λ n. FitsAll terms.signatures terms.entries n.body) fs
@@ -82,7 +82,7 @@ fits_each terms files typed = inner files (each_from_all _ files typed.fits)
 
 -- the code of a project that is read and typed is valid, where its statements have room
 pub valid_with_room : (signatures : List Signature) (sources : List SourceFile) (lines : List FileLines) (entries : List TypedName) → reading_of signatures sources ≡ Reads lines →
-    IsTyped signatures entries (map grown lines) → EachNode (λ n. HasRoom 0 n.body) (map grown lines) → IsValid (code_of signatures entries (map grown lines))
+    IsFitting signatures entries (map grown lines) → EachNode (λ n. HasRoom 0 n.body) (map grown lines) → IsValid (code_of signatures entries (map grown lines))
 valid_with_room signatures sources lines entries reads typed room =
     let files = map grown lines in
     let terms = terms_of signatures entries files in

@@ -23,7 +23,7 @@ use Rattle.yarn_code.specs.Moments.{State, Ended, stands, finishes}
 use Rattle.yarn_code.specs.MachineState.{Here, Stack, To, Ends, Starts, Rests, MachineState, machine, here_in, moved_to, entry}
 use Rattle.yarn_code.specs.MachineState as states
 use Rattle.yarn_code.specs.Machine.{Quiet, Shows, when_some, breaks, enters_to, next}
-use Rattle.yarn_code.specs.Runs.{Ran, outcome_of, MFirst}
+use Rattle.yarn_code.specs.Runs.{Course, outcome_of, MFirst}
 use Rattle.yarn_meaning.specs.Does.{does_all}
 use Rattle.yarn_meaning.specs.First.{after, Placed, nodes_from, first_titled, find, at_node, faults_at, leaves, Piece, Going, entered, in_node, enters, exits_of, from, starting, first_of}
 use Rattle.yarn_meaning.specs.Variables.{variables_of, first_store}
@@ -247,7 +247,7 @@ module _ (signatures : List Signature) (entries : List TypedName) (files : List 
       Gives p start st (suc k) (first_of signatures files start (beginning entries files st) (suc k))
   code_shows start node st k e kept = let c = entry_comes start node st k e kept in record { came = c.came; first = c.reached; is = c.is }
 
-  code_alone : (start : List ℕ) (node : Placed) (st : State) (k : ℕ) (r : Ran) → find start files ≡ Some node → KeepsKinds (pairs_of p.variables) st.store →
+  code_alone : (start : List ℕ) (node : Placed) (st : State) (k : ℕ) (r : Course) → find start files ≡ Some node → KeepsKinds (pairs_of p.variables) st.store →
       MFirst p (entry p start st) k r → outcome_of r ≡ first_of signatures files start (beginning entries files st) k
   code_alone start node st zero r e kept h = absurd h
   code_alone start node st (suc k) r e kept h =

@@ -14,7 +14,6 @@ use Rattle.yarn_value.specs.Visits.{count_name}
 use Rattle.yarn_meaning.specs.Does.{group_line}
 use Rattle.yarn_meaning.specs.Texts.{said_in, said_in_one, said_in_options, said_in_clauses, said_in_last}
 use Rattle.yarn_code.specs.declared.program.Instr.TheVariants as code
-use Rattle.yarn_code.specs.declared.program.Instr.{Instr}
 use Rattle.yarn_code.specs.declared.program.Coded.{Coded}
 use Rattle.yarn_code.specs.Parts.{coded}
 use Rattle.yarn_code.specs.declared.program.CodeNode.{CodeNode}

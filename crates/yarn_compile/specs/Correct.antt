@@ -11,7 +11,7 @@ use Rattle.yarn_code.specs.Fields.{HasFields}
 use Rattle.yarn_code.specs.Moments.{State, Outcome}
 use Rattle.yarn_code.specs.Parts.{pairs_of}
 use Rattle.yarn_code.specs.MachineState.{entry}
-use Rattle.yarn_code.specs.Runs.{Ran, outcome_of, MFirst}
+use Rattle.yarn_code.specs.Runs.{Course, outcome_of, MFirst}
 use Rattle.yarn_check.specs.Shapes.{IsValid}
 use Rattle.yarn_meaning.specs.First.{Placed, find, first_of}
 use Rattle.yarn_kinds.specs.Typed.{AreAccepted}
@@ -34,7 +34,7 @@ Fielded = (signatures : List Signature) (sources : List SourceFile) (lines : Lis
 
 -- the machine comes to that outcome with its first k events, for k at least 1
 pub record Gives (p : Program) (start : List ℕ) (st : State) (k : ℕ) (o : Outcome) : Type 0 where
-  pub came : Ran
+  pub came : Course
   pub first : MFirst p (entry p start st) k came
   pub is : outcome_of came ≡ o
 
@@ -43,7 +43,7 @@ pub record Gives (p : Program) (start : List ℕ) (st : State) (k : ℕ) (o : Ou
 pub record Means (signatures : List Signature) (entries : List TypedName) (files : List FileTree) (p : Program) : Type 0 where
   pub shows : (start : List ℕ) (node : Placed) (st : State) (k : ℕ) → find start files ≡ Some node → KeepsKinds (pairs_of p.variables) st.store →
       Gives p start st (suc k) (first_of signatures files start (beginning entries files st) (suc k))
-  pub alone : (start : List ℕ) (node : Placed) (st : State) (k : ℕ) (r : Ran) → find start files ≡ Some node → KeepsKinds (pairs_of p.variables) st.store →
+  pub alone : (start : List ℕ) (node : Placed) (st : State) (k : ℕ) (r : Course) → find start files ≡ Some node → KeepsKinds (pairs_of p.variables) st.store →
       MFirst p (entry p start st) k r → outcome_of r ≡ first_of signatures files start (beginning entries files st) k
 
 -- the code of an accepted project means what the project means

@@ -1,3 +1,4 @@
+//! Why a text gives no expression.
 /// Why a piece of a text gives no expression. `Fraction` and `NumberTooLarge`, in this order, come only
 /// where the piece has a tree. The rules are those of docs/language.md, "Tokens and expressions".
 #[derive(Clone, Copy, Debug, PartialEq, Eq)]

@@ -1,3 +1,4 @@
+//! Each public call once with ample memory.
 use crate::{ExprFault, print_expr, read_expr};
 use std::alloc::Global;
 use std::process::Abort;

@@ -1,3 +1,4 @@
+//! The tokens of an expression.
 use yarn_base::Text;
 
 /// One token of docs/language.md, "Tokens and expressions".

@@ -1,3 +1,4 @@
+//! The tree of an expression.
 use yarn_base::{Boxed, List, Text};
 
 /// An operator before its operand.

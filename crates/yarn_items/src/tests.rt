@@ -1,3 +1,4 @@
+//! Each public call once with ample memory.
 use crate::{Found, Item, Literals, Mode, Said, read_item};
 use std::alloc::Global;
 use std::process::Abort;

@@ -1,3 +1,4 @@
+//! Each public call once with ample memory.
 use crate::{LineFault, first_piece, split, text_in};
 use std::alloc::Global;
 use std::process::Abort;

@@ -1,3 +1,4 @@
+//! The laws of this crate, each proved as the contract of a function that does nothing.
 ghost use Rattle.yarn_meaning.specs.BaseLaw.{BaseTells};
 ghost use Rattle.yarn_meaning.specs.Prefix.{Grows};
 

@@ -1,3 +1,4 @@
+//! Each public call once with ample memory.
 use crate::{FileRead, Notes, read_lines};
 use std::alloc::Global;
 use std::process::Abort;

@@ -1,3 +1,4 @@
+//! Each public call once with ample memory.
 use crate::print_file;
 use std::alloc::Global;
 use std::test::Fail;

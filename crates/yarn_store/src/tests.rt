@@ -1,3 +1,4 @@
+//! Each public call once with ample memory.
 ghost use Rattle.std.specs.Prelude.{◌≤◌, length};
 
 use crate::{Store, VarsFault, read_vars, write_vars};

@@ -1,3 +1,4 @@
+//! Why a project is refused.
 use yarn_base::{Memory, Place};
 
 /// Why a project is refused (docs/language.md, Refusals of a project). The first of these that has a

@@ -1,3 +1,4 @@
+//! The trees of a project.
 use crate::body::Body;
 use yarn_base::{List, Text};
 use yarn_items::Header;

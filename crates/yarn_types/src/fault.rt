@@ -1,3 +1,4 @@
+//! Why a project has no typing.
 use yarn_base::{Memory, Place, Text};
 
 /// Why a project has not one typing (docs/language.md, Refusals of a project).

@@ -1,3 +1,4 @@
+//! The rows of a string table.
 use yarn_base::{List, Text};
 
 /// A line or an option of the source, as a string table has it: its id, its table text with one

@@ -1,3 +1,4 @@
+//! Why an operation gives no value, and why a run ends early.
 ghost use Rattle.std.specs.Prelude.{◌≡◌};
 
 use yarn_base::{Memory, Text};

@@ -1,3 +1,4 @@
+//! The replies of host functions.
 use crate::Value;
 use yarn_base::{List, Text};
 

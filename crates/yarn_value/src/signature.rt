@@ -1,3 +1,4 @@
+//! The signatures of host functions.
 use crate::Kind;
 use yarn_base::{List, Text};
 

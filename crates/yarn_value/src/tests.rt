@@ -1,3 +1,4 @@
+//! Each public call once with ample memory.
 ghost use Rattle.std.specs.Prelude.{◌≡◌, IfOk};
 ghost use Rattle.yarn_value.specs.declared.value.Value.TheVariants.{Str};
 

@@ -1,3 +1,4 @@
+//! Values, their kinds and their texts.
 ghost use Rattle.std.specs.Prelude.{◌≡◌, IfOk, OnErr};
 ghost use Rattle.std.specs.Fmt.{signed_decimal};
 ghost use Rattle.yarn_value.specs.Values.{kind_of, text_of_value};
