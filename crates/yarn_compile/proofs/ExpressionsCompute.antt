@@ -1,5 +1,5 @@
 -- The machine follows expressions.
-use Rattle.std.proofs.Common.{◌≡◌, ℕ, suc, ◌+◌, ◌-◌, Bool, true, false, if◌then◌else◌, ◌&&◌, List, [], ◌∷◌, ◌++◌, length, map, Result, Ok, Err, Option, Some, None, is_some, refl, sym, ap, ◌∙◌, subst, arith, length-append}
+use Rattle.std.proofs.Common.{◌≡◌, ℕ, suc, ◌+◌, Bool, true, false, if◌then◌else◌, ◌&&◌, List, [], ◌∷◌, ◌++◌, length, map, Result, Ok, Err, Option, Some, None, is_some, refl, sym, ap, ◌∙◌, subst, arith, length-append}
 use Rattle.std.specs.Prelude.{slice_get, pos, unwrap_or}
 use Rattle.std.proofs.lemmas.List.{length-map}
 use Rattle.yarn_value.specs.declared.value.Value.{Value}
@@ -12,7 +12,7 @@ use Rattle.yarn_value.specs.declared.signature.Signature.{Signature}
 use Rattle.yarn_value.specs.Values.{kind_of}
 use Rattle.yarn_value.specs.Builtins.{Row, applied, builtin_named}
 use Rattle.yarn_value.specs.Operations.{same_text, operation}
-use Rattle.yarn_value.specs.Calls.{known_result, row_result, builtin_result}
+use Rattle.yarn_value.specs.Calls.{known_result, row_result}
 use Rattle.yarn_expr.specs.declared.tree.Expr.{Expr}
 use Rattle.yarn_expr.specs.declared.tree.Expr.TheOpen.{Expr-F}
 use Rattle.yarn_expr.specs.declared.tree.Expr.TheViews.{roll-Expr}

@@ -1,9 +1,8 @@
 -- The machine follows a behaviour: from there it shows what the behaviour says.
-use Rattle.std.proofs.Common.{◌≡◌, ℕ, zero, suc, ◌+◌, ◌-◌, ◌<◌, ◌≤◌, List, [], ◌∷◌, ◌++◌, length, Result, Ok, Err, Some, None, refl, sym, ap, ◌∙◌, subst, arith, append_assoc, append-nil, length-append}
+use Rattle.std.proofs.Common.{◌≡◌, ℕ, zero, suc, ◌+◌, ◌-◌, ◌<◌, ◌≤◌, List, [], ◌∷◌, ◌++◌, length, Some, None, refl, sym, ap, ◌∙◌, subst, arith, append_assoc, append-nil, length-append}
 use Rattle.std.specs.Prelude.{slice_get}
 use Rattle.yarn_value.specs.declared.value.Value.{Value}
 use Rattle.yarn_value.specs.declared.fault.RunFault.{RunFault}
-use Rattle.yarn_value.specs.Pairs.{Pairs}
 use Rattle.yarn_value.specs.Tape.{Tape}
 use Rattle.yarn_value.specs.Evaluation.{Scope, Halt, Faults, Evaluated, Gives, Halts, given, and_then}
 use Rattle.yarn_value.specs.Builtins.{builtin_named}
@@ -17,7 +16,7 @@ use Rattle.yarn_code.specs.declared.program.Program.{Program}
 use Rattle.yarn_code.specs.Parts.{coded, code_titled, line_of, line_at}
 use Rattle.yarn_code.specs.Moments.{State, Stand, Outcome, Behaviour, moment, with_moment, stands, emit, finishes}
 use Rattle.yarn_code.specs.MachineState.{Value as Val, Stack, Offer, Here, Runs, Fault, MachineState, machine, over}
-use Rattle.yarn_code.specs.Machine.{Stepped, Quiet, Shows, Finishes, StandsAt, Stuck, take_values, when_some, fault_at, breaks, in_node, act, next}
+use Rattle.yarn_code.specs.Machine.{Stepped, Quiet, Shows, Finishes, StandsAt, Stuck, take_values, when_some, fault_at, breaks, act, next}
 use Rattle.yarn_code.specs.Listed.{pushed}
 use Rattle.yarn_code.specs.Runs.{Course, outcome_of, ticks, with_first, with_count, follow, run, Reaches}
 use Rattle.yarn_meaning.specs.First.{Placed, halts_at}

@@ -23,13 +23,12 @@ use Rattle.yarn_value.specs.Evaluation.{Halt, Evaluated, Gives, given, and_then}
 use Rattle.yarn_meaning.specs.Does.{Done, asked, choice_of, with_choices, is_true}
 use Rattle.yarn_meaning.specs.First.{Exits, after, halts_at}
 use Rattle.yarn_code.specs.declared.program.Instr.TheVariants as instr
-use Rattle.yarn_code.specs.declared.program.Instr.{Instr}
 use Rattle.yarn_code.specs.declared.program.Coded.{Coded}
 use Rattle.yarn_code.specs.Parts.{coded}
 use Rattle.yarn_code.specs.declared.program.Program.{Program}
 use Rattle.yarn_compile.specs.Code.{Terms, expr_code, exprs_code, condition_code, head_size, heads_size, size_all, head_code, heads_code}
 use Rattle.yarn_kinds.specs.Typed.{variables_in, Keeps}
-use Rattle.yarn_code.specs.MachineState.{Value as Val, Stack, Offer, choices, MachineState}
+use Rattle.yarn_code.specs.MachineState.{Value as Val, Stack, Offer, choices}
 use Rattle.yarn_code.specs.Machine.{offer, Quiet, Stuck, next}
 use Rattle.yarn_code.specs.Listed.{pushed}
 use Rattle.yarn_kinds.proofs.Asked.{conditions}

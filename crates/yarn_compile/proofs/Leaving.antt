@@ -18,7 +18,6 @@ use Rattle.yarn_code.specs.Moments.{State, Behaviour, moment, emit, finishes, wi
 use Rattle.yarn_value.specs.Visits.{number_in, visits, count_name}
 use Rattle.yarn_meaning.specs.First.{counted, leaves}
 use Rattle.yarn_code.specs.declared.program.Instr.TheVariants as instr
-use Rattle.yarn_code.specs.declared.program.Coded.{Coded}
 use Rattle.yarn_code.specs.Parts.{coded}
 use Rattle.yarn_code.specs.declared.program.Program.{Program}
 use Rattle.yarn_compile.specs.Code.{Terms, exit_code, stop_code}

@@ -8,7 +8,6 @@ use Rattle.yarn_value.specs.declared.value.Kind.TheVariants as kind
 use Rattle.yarn_value.specs.declared.fault.RunFault.TheVariants as run
 use Rattle.yarn_value.specs.declared.signature.Signature.{Signature}
 use Rattle.yarn_value.specs.Pairs.{Pairs, with_missing}
-use Rattle.yarn_value.specs.Evaluation.{Faults}
 use Rattle.yarn_value.specs.Visits.{count_name}
 use Rattle.yarn_nodes.specs.declared.node.FileLines.{FileLines}
 use Rattle.yarn_tree.specs.Laws.{ReadExactly}

@@ -29,7 +29,6 @@ use Rattle.yarn_meaning.specs.Does.{Done, done, Through, Jumps, showing, says, s
 use Rattle.yarn_meaning.specs.First.{after, halts_at}
 use Rattle.yarn_code.specs.declared.program.Instr.TheVariants as instr
 use Rattle.yarn_code.specs.declared.program.Instr.{Instr}
-use Rattle.yarn_code.specs.declared.program.Coded.{Coded}
 use Rattle.yarn_code.specs.Parts.{coded, line_of}
 use Rattle.yarn_code.specs.declared.program.Program.{Program}
 use Rattle.yarn_compile.specs.Code.{Terms, expr_code, exprs_code, exit_code, store_code, simple_code}
@@ -37,7 +36,6 @@ use Rattle.yarn_kinds.specs.Typed.{variables_in}
 use Rattle.yarn_code.specs.MachineState.{Value as Val, Stack, Rest, Line, Command, Rests, MachineState, machine}
 use Rattle.yarn_code.specs.Machine.{Quiet, Shows, Stuck, when_some, act, next}
 use Rattle.yarn_code.specs.Listed.{pushed}
-use Rattle.yarn_code.specs.Fields.{IsText}
 use Rattle.yarn_kinds.proofs.Asked.{titles}
 use Rattle.yarn_code.specs.Kinds.{HasKind}
 use Rattle.yarn_compile.proofs.Follows.{Stands, first_stands, rest_stands, front_stands, back_stands, running, Site, here_of, scope_in, take_pushed, coded_node, Follows, quiet, shows_same, at_place, step}
