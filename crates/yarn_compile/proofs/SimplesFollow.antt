@@ -131,9 +131,9 @@ module _ (terms : Terms) (p : Program) (site : Site terms p) (n : ℕ) (Good : P
   pub simple_follows : (s : Simple) (pc : ℕ) (stack : Stack) → FitsSimple terms s →
       Stands site.code pc (simple_code terms title s) →
       FollowsStmt (length (simple_code terms title s)) (does_simple (scope_in site) s) pc stack
-  simple_follows (simple.Line text) pc stack fit laid st way good = 
+  simple_follows (simple.Line text) pc stack fit laid st way good =
       says_follow text (instr.RunLine (length text.holes) text.id) (λ vs. event.Line text.id vs) (λ vs. Line text.id vs) (line_acts text) (λ pc1 stack1 st1 vs. refl) fit.0 pc stack laid st way good
-  simple_follows (simple.Command text) pc stack fit laid st way good = 
+  simple_follows (simple.Command text) pc stack fit laid st way good =
       says_follow text (instr.RunCommand (length text.holes) text.text) (λ vs. event.Command (filled text.text vs)) (λ vs. Command (filled text.text vs))
       (command_acts text (template_of text.text (length text.holes)) refl fit.1.template) (λ pc1 stack1 st1 vs. refl) fit.0 pc stack laid st way good
   simple_follows (simple.Set head name op e) pc stack fit laid st way good =
