@@ -67,7 +67,7 @@ holes_filled (past_pair more) = holes_filled more
 holes_filled (at_hole {inside = inside} {own = own} {e = e} h more) = (some_inside inside own e h, holes_filled more)
 
 -- what stands before a `}`, the `}`, and what follows it
-brace_bytes : {quoted : Bool} {bytes inside rest : List ℕ} → ToBrace quoted bytes inside rest → length bytes ≡ length inside + 1 + length rest
+pub brace_bytes : {quoted : Bool} {bytes inside rest : List ℕ} → ToBrace quoted bytes inside rest → length bytes ≡ length inside + 1 + length rest
 brace_bytes (closes {rest = rest}) = omega arith
 brace_bytes (quote h) = let n = brace_bytes h in omega arith
 brace_bytes (skipped h) = let n = brace_bytes h in omega arith
