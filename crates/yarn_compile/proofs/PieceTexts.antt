@@ -35,16 +35,16 @@ AreFilled (Char c ∷ pieces) = AreFilled pieces
 AreFilled (Pair c ∷ pieces) = AreFilled pieces
 AreFilled (Hole inside ∷ pieces) = (1 ≤ length inside) × AreFilled pieces
 
+no_join : (left : List Token) (t : Token) (right : List Token) → [] ≡ left ++ t ∷ right → ⊥
+no_join [] t right s = cc
+no_join (x ∷ left) t right s = cc
+
 no_tokens : (tree : Tree) → Spells tree [] → ⊥
 no_tokens (Leaf t) h = let e = h.alone in absurd cc
 no_tokens (Group e) h = let s = h.split in absurd cc
 no_tokens (Call name es) h = let s = h.split in absurd cc
 no_tokens (Unary op e) h = let s = h.1.split in absurd cc
-no_tokens (Binary op l r) h = by_left h.2.left h.2.split
-  where
-    by_left : {t : Token} {right : List Token} (left : List Token) → [] ≡ left ++ t ∷ right → ⊥
-    by_left [] s = cc
-    by_left (x ∷ left) s = cc
+no_tokens (Binary op l r) h = no_join h.2.left h.2.middle h.2.right h.2.split
 
 -- an expression has a character
 some_inside : (inside : List ℕ) (tokens : List Token) (e : Expr) → IsExpression (chars inside) tokens e → 1 ≤ length inside

@@ -14,10 +14,10 @@ use Rattle.yarn_value.specs.Templates.{Mark, Stands, Brace, Placeholder, Place, 
 use Rattle.yarn_code.specs.Fields.{IsText}
 
 -- the bytes, read from that place on, are marks, with at most so many placeholders and at most so many bytes
-pub record IsRead (holes : ℕ) (place : Place) (bytes : List ℕ) (few most : ℕ) : Type 0 where
+pub record IsRead (holes : ℕ) (place : Place) (bytes : List ℕ) (count most : ℕ) : Type 0 where
   pub own : List Mark
   pub is : marks holes place bytes ≡ Some own
-  pub few : placeholders own ≤ few
+  pub few : placeholders own ≤ count
   pub small : size own ≤ most
 
 -- ---- one mark more
@@ -257,5 +257,5 @@ trimmed_read n bytes few most r =
 pub text_read : (n : ℕ) (bytes : List ℕ) (few : ℕ) → n ≤ 16 → few ≤ 64 → IsRead n Plain bytes few 65536 → IsText bytes n
 text_read n bytes few h g r = record {
   few = h;
-  template = rw (r.is, le-leb (placeholders r.own) 64 (omega (arith, r.few)), le-leb (size r.own) 65536 r.small) tt;
+  template = rw (r.is, le-leb (placeholders r.own) 64 (omega (arith, r.few)), le-leb (size r.own) 65536 r.small) refl;
 }
