@@ -67,7 +67,8 @@ module _ (items_found : ItemsAreFound) where
       let behind = all_back HasText is.headers (is.begins ∷ (is.inner ++ is.ends ∷ [])) (subst (AllByRecursion HasText) is.cut h) in
       entries_text is.inner node.body is.body (all_front HasText is.inner (is.ends ∷ []) behind.1)
 
-  nodes_text : {items : List ItemAt} {nodes : List NodeLines} → AreNodes HasIds items nodes → AllByRecursion HasText items → AllByRecursion NodeText nodes
+  nodes_text : {items : List ItemAt} {nodes : List NodeLines} → AreNodes HasIds items nodes → AllByRecursion HasText items →
+      AllByRecursion NodeText nodes
   nodes_text no_node h = tt
   nodes_text (first_node {items = items} {rest = rest} {node = node} {nodes = nodes} is more) h =
       (node_text items node is (all_front HasText items rest h), nodes_text more (all_back HasText items rest h))
@@ -77,7 +78,8 @@ module _ (items_found : ItemsAreFound) where
       let all = items_text InHeaders (lines_of source.bytes).lines has.items has.has_items fine.holes (readable_short source.bytes has.readable) in
       nodes_text has.is_file.are_nodes (all_back HasText has.is_file.front has.is_file.rest (subst (AllByRecursion HasText) has.is_file.cut all))
 
-  files_text : (sources : List SourceFile) (files : List FileLines) → AllHaveLines sources files → AllByRecursion HasFineLines sources → AllByRecursion FileText files
+  files_text : (sources : List SourceFile) (files : List FileLines) → AllHaveLines sources files → AllByRecursion HasFineLines sources →
+      AllByRecursion FileText files
   files_text [] [] have fine = tt
   files_text [] (file ∷ files) have fine = absurd have
   files_text (source ∷ sources) [] have fine = absurd have
@@ -96,15 +98,18 @@ body_texts n (Some b) is h = block_texts (read-block n.body b is) h
 bodies_texts : (file : ℕ) (nodes : List NodeLines) → AllByRecursion NodeText nodes → All PlacedTexts (nodes_at file (map grown_node nodes))
 bodies_texts file [] h = All-nil PlacedTexts
 bodies_texts file (n ∷ nodes) h =
-    All-cons PlacedTexts (record { node = grown_node n; file = file }) (nodes_at file (map grown_node nodes)) (body_texts n (read n.body) refl h.0) (bodies_texts file nodes h.1)
+    All-cons PlacedTexts (record { node = grown_node n; file = file }) (nodes_at file (map grown_node nodes))
+    (body_texts n (read n.body) refl h.0) (bodies_texts file nodes h.1)
 
 trees_texts : (file : ℕ) (files : List FileLines) → AllByRecursion FileText files → All PlacedTexts (nodes_from file (map grown files))
 trees_texts file [] h = All-nil PlacedTexts
 trees_texts file (f ∷ files) h =
-    All-append PlacedTexts (nodes_at file (map grown_node f.nodes)) (nodes_from (suc file) (map grown files)) (bodies_texts file f.nodes h.0) (trees_texts (suc file) files h.1)
+    All-append PlacedTexts (nodes_at file (map grown_node f.nodes)) (nodes_from (suc file) (map grown files))
+    (bodies_texts file f.nodes h.0) (trees_texts (suc file) files h.1)
 
 -- the texts of the nodes of an accepted project are templates
-pub texts_of_accepted : ItemsAreFound → ReadExactly → (signatures : List Signature) (sources : List SourceFile) (lines : List FileLines) (entries : List TypedName) →
+pub texts_of_accepted : ItemsAreFound → ReadExactly →
+    (signatures : List Signature) (sources : List SourceFile) (lines : List FileLines) (entries : List TypedName) →
     AreAccepted signatures sources lines entries → All PlacedTexts (nodes_from 0 (map grown lines))
 texts_of_accepted items_found exactly signatures sources lines entries accepted =
     let is = (exactly signatures sources lines).0 accepted.read in

@@ -87,80 +87,96 @@ unlike k c test on off = ne_eqb c k (λ e. let h : test k ≡ false = subst (λ 
 no_brace : (c : ℕ) → is_escaped c ≡ false → is_brace c ≡ false
 no_brace c is = rw (unlike 123 c is_escaped refl is, unlike 125 c is_escaped refl is) refl
 
-pair_kept : (n k c : ℕ) (bytes : List ℕ) (pieces : List Piece) → IsRead n AtPlain (kept_from k pieces) (hole_count pieces) (length bytes) →
-    IsRead n AtPlain (pair_text c ++ kept_from k pieces) (hole_count pieces) (2 + length bytes)
-pair_kept n k c bytes pieces r = by_test (is_kept c) refl
+pair_kept : (n c : ℕ) (text : List ℕ) (few most : ℕ) → IsRead n AtPlain text few most → IsRead n AtPlain (pair_text c ++ text) few (2 + most)
+pair_kept n c text few most r = by_test (is_kept c) refl
   where
-    by_test : (t : Bool) → is_kept c ≡ t → IsRead n AtPlain (pair_text c ++ kept_from k pieces) (hole_count pieces) (2 + length bytes)
-    by_test true t = rw t (pair_read n c (kept_from k pieces) (hole_count pieces) (length bytes) r)
-    by_test false t = rw t (
-      weaker n AtPlain (c ∷ kept_from k pieces) (hole_count pieces) (1 + length bytes) (hole_count pieces) (2 + length bytes) (omega arith) (omega arith)
-      (stands_read n c (kept_from k pieces) (hole_count pieces) (length bytes) (unlike 92 c is_kept refl t) (unlike 123 c is_kept refl t) r)
-    )
+    by_test : (t : Bool) → is_kept c ≡ t → IsRead n AtPlain (pair_text c ++ text) few (2 + most)
+    by_test true t = rw t (pair_read n c text few most r)
+    by_test false t =
+        let alone = stands_read n c text few most (unlike 92 c is_kept refl t) (unlike 123 c is_kept refl t) r in
+        rw t (weaker n AtPlain (c ∷ text) few (1 + most) few (2 + most) (omega arith) (omega arith) alone)
 
 -- a character that begins no pair
-char_kept : (n k c : ℕ) (bytes : List ℕ) (pieces : List Piece) → begins_pair (c ∷ bytes) ≡ false → begins_other (c ∷ bytes) ≡ false →
-    IsKeptRead n k pieces bytes → IsRead n AtPlain (c ∷ kept_from k pieces) (hole_count pieces) (1 + length bytes)
+char_kept : (n k c : ℕ) (bytes : List ℕ) (pieces : List Piece) →
+    begins_pair (c ∷ bytes) ≡ false → begins_other (c ∷ bytes) ≡ false → IsKeptRead n k pieces bytes →
+    IsRead n AtPlain (c ∷ kept_from k pieces) (hole_count pieces) (1 + length bytes)
 char_kept n k c bytes pieces no_pair no_other r = by_test (nat_eq c 92) refl
   where
     by_test : (t : Bool) → nat_eq c 92 ≡ t → IsRead n AtPlain (c ∷ kept_from k pieces) (hole_count pieces) (1 + length bytes)
     by_test true t =
         moved n AtPlain Behind (c ∷ kept_from k pieces) (kept_from k pieces) (hole_count pieces) (1 + length bytes) (rw t refl)
         (r.behind (subst (λ x. begins_pair (x ∷ bytes) ≡ false) (eqb-true c 92 t) no_pair))
-    by_test false t = stands_read n c (kept_from k pieces) (hole_count pieces) (length bytes) t (unlike 123 c (λ x. begins_other (x ∷ bytes)) refl no_other) r.own
+    by_test false t =
+        let no_hole = unlike 123 c (λ x. begins_other (x ∷ bytes)) refl no_other in
+        stands_read n c (kept_from k pieces) (hole_count pieces) (length bytes) t no_hole r.own
 
-kept_read : {bytes rest : List ℕ} {pieces : List Piece} → Pieces bytes pieces rest → (n k : ℕ) → n ≤ 16 → k + hole_count pieces ≤ n → AreFilled pieces →
-    IsKeptRead n k pieces bytes
+kept_read : {bytes rest : List ℕ} {pieces : List Piece} → Pieces bytes pieces rest →
+    (n k : ℕ) → n ≤ 16 → k + hole_count pieces ≤ n → AreFilled pieces → IsKeptRead n k pieces bytes
 kept_read (no_piece {rest = rest}) n k small fit filled = record {
   own = none_read n 0 (length rest);
   behind = λ no_pair. record { own = Stands 92 ∷ []; is = refl; few = omega arith; small = omega arith };
 }
 kept_read (pair {c = c} {bytes = bytes} {pieces = pieces} is read) n k small fit filled = record {
-  own = weaker n AtPlain (pair_text c ++ kept_from k pieces) (hole_count pieces) (2 + length bytes) (hole_count pieces) (length (92 ∷ c ∷ bytes)) (omega arith) (omega arith)
-      (pair_kept n k c bytes pieces (kept_read read n k small fit filled).own);
+  own =
+      let later = kept_read read n k small fit filled in
+      weaker n AtPlain (pair_text c ++ kept_from k pieces) (hole_count pieces) (2 + length bytes)
+      (hole_count pieces) (length (92 ∷ c ∷ bytes)) (omega arith) (omega arith)
+      (pair_kept n c (kept_from k pieces) (hole_count pieces) (length bytes) later.own);
   behind = λ no_pair. absurd cc;
 }
 kept_read (hole {bytes = bytes} {inside = inside} {more = more} {pieces = pieces} is read) n k small fit filled = record {
   own =
       let all = brace_bytes is in
       let later = kept_read read n (k + 1) small (omega (arith, fit)) filled.1 in
-      weaker n AtPlain (hole_text k ++ kept_from (k + 1) pieces) (1 + hole_count pieces) (3 + length more) (1 + hole_count pieces) (length (123 ∷ bytes)) (omega arith) (omega (arith, all, filled.0))
+      weaker n AtPlain (hole_text k ++ kept_from (k + 1) pieces) (1 + hole_count pieces) (3 + length more)
+      (1 + hole_count pieces) (length (123 ∷ bytes)) (omega arith) (omega (arith, all, filled.0))
       (placeholder_read n k (kept_from (k + 1) pieces) (hole_count pieces) (length more) (omega (arith, fit)) small later.own);
   behind = λ no_pair. absurd cc;
 }
 kept_read (char {c = c} {bytes = bytes} {pieces = pieces} no_pair no_other read) n k small fit filled =
     let later = kept_read read n k small fit filled in record {
-      own = weaker n AtPlain (c ∷ kept_from k pieces) (hole_count pieces) (1 + length bytes) (hole_count pieces) (length (c ∷ bytes)) (omega arith) (omega arith)
+      own =
+          weaker n AtPlain (c ∷ kept_from k pieces) (hole_count pieces) (1 + length bytes)
+          (hole_count pieces) (length (c ∷ bytes)) (omega arith) (omega arith)
           (char_kept n k c bytes pieces no_pair no_other later);
-      behind = λ alone. weaker n Behind (c ∷ kept_from k pieces) (hole_count pieces) (2 + length bytes) (hole_count pieces) (1 + length (c ∷ bytes)) (omega arith) (omega arith)
+      behind = λ alone.
+          weaker n Behind (c ∷ kept_from k pieces) (hole_count pieces) (2 + length bytes)
+          (hole_count pieces) (1 + length (c ∷ bytes)) (omega arith) (omega arith)
           (behind_read n c (kept_from k pieces) (hole_count pieces) (length bytes) (no_brace c alone) later.own);
     }
 
 -- the text of a line with at most 16 substitutions is a template
-pub table_template : (bytes rest : List ℕ) (pieces : List Piece) (tokens : List Token) (es : List Expr) → Pieces bytes pieces rest → AreHoles pieces tokens es →
-    length bytes ≤ 65536 → length es ≤ 16 → IsText (table_text pieces) (length es)
+pub table_template : (bytes rest : List ℕ) (pieces : List Piece) (tokens : List Token) (es : List Expr) →
+    Pieces bytes pieces rest → AreHoles pieces tokens es → length bytes ≤ 65536 → length es ≤ 16 → IsText (table_text pieces) (length es)
 table_template bytes rest pieces tokens es read held short few =
     let n = holes_counted held in
     let own = (kept_read read (length es) 0 few (omega (arith, n)) (holes_filled held)).own in
-    text_read (length es) (table_text pieces) (length es) few (omega (arith, few))
-    (trimmed_read (length es) (kept_from 0 pieces) (length es) 65536 (weaker (length es) AtPlain (kept_from 0 pieces) (hole_count pieces) (length bytes) (length es) 65536 (omega (arith, n)) short own))
+    let whole = weaker (length es) AtPlain (kept_from 0 pieces) (hole_count pieces) (length bytes) (length es) 65536 (omega (arith, n)) short own in
+    text_read (length es) (table_text pieces) (length es) few (omega (arith, few)) (trimmed_read (length es) (kept_from 0 pieces) (length es) 65536 whole)
 
 -- ---- the text of a command for the game
 
-game_read : {bytes : List ℕ} {pieces : List Piece} → GamePieces bytes pieces → (n k : ℕ) → n ≤ 16 → k + hole_count pieces ≤ n → AreFilled pieces →
+game_read : {bytes : List ℕ} {pieces : List Piece} → GamePieces bytes pieces →
+    (n k : ℕ) → n ≤ 16 → k + hole_count pieces ≤ n → AreFilled pieces →
     IsRead n AtPlain (game_text_from k pieces) (hole_count pieces) (length bytes)
 game_read G.no_piece n k small fit filled = none_read n 0 0
 game_read G.last n k small fit filled = record { own = Stands 92 ∷ []; is = refl; few = omega arith; small = omega arith }
 game_read (G.pair {c = c} {bytes = bytes} {pieces = pieces} read) n k small fit filled =
-    weaker n AtPlain (92 ∷ c ∷ game_text_from k pieces) (hole_count pieces) (2 + length bytes) (hole_count pieces) (length (92 ∷ c ∷ bytes)) (omega arith) (omega arith)
+    weaker n AtPlain (92 ∷ c ∷ game_text_from k pieces) (hole_count pieces) (2 + length bytes)
+    (hole_count pieces) (length (92 ∷ c ∷ bytes)) (omega arith) (omega arith)
     (pair_read n c (game_text_from k pieces) (hole_count pieces) (length bytes) (game_read read n k small fit filled))
 game_read (G.hole {bytes = bytes} {inside = inside} {more = more} {pieces = pieces} is read) n k small fit filled =
     let all = brace_bytes is in
-    weaker n AtPlain (hole_text k ++ game_text_from (k + 1) pieces) (1 + hole_count pieces) (3 + length more) (1 + hole_count pieces) (length (123 ∷ bytes)) (omega arith) (omega (arith, all, filled.0))
-    (placeholder_read n k (game_text_from (k + 1) pieces) (hole_count pieces) (length more) (omega (arith, fit)) small (game_read read n (k + 1) small (omega (arith, fit)) filled.1))
+    let later = game_read read n (k + 1) small (omega (arith, fit)) filled.1 in
+    weaker n AtPlain (hole_text k ++ game_text_from (k + 1) pieces) (1 + hole_count pieces) (3 + length more)
+    (1 + hole_count pieces) (length (123 ∷ bytes)) (omega arith) (omega (arith, all, filled.0))
+    (placeholder_read n k (game_text_from (k + 1) pieces) (hole_count pieces) (length more) (omega (arith, fit)) small later)
 game_read (G.char {c = c} {bytes = bytes} {pieces = pieces} is read) n k small fit filled =
-    weaker n AtPlain (c ∷ game_text_from k pieces) (hole_count pieces) (1 + length bytes) (hole_count pieces) (length (c ∷ bytes)) (omega arith) (omega arith)
-    (stands_read n c (game_text_from k pieces) (hole_count pieces) (length bytes) (unlike 92 c other refl is_other) (unlike 123 c other refl is_other) (game_read read n k small fit filled))
+    let later = game_read read n k small fit filled in
+    weaker n AtPlain (c ∷ game_text_from k pieces) (hole_count pieces) (1 + length bytes)
+    (hole_count pieces) (length (c ∷ bytes)) (omega arith) (omega arith)
+    (stands_read n c (game_text_from k pieces) (hole_count pieces) (length bytes)
+    (unlike 92 c other refl is_other) (unlike 123 c other refl is_other) later)
   where
     other : ℕ → Bool
     other x = not (is_char x)
@@ -168,8 +184,8 @@ game_read (G.char {c = c} {bytes = bytes} {pieces = pieces} is read) n k small f
     is_other = ap not is
 
 -- the text of a command for the game with at most 16 substitutions is a template
-pub game_template : (bytes : List ℕ) (pieces : List Piece) (tokens : List Token) (es : List Expr) → GamePieces bytes pieces → AreHoles pieces tokens es →
-    length bytes ≤ 65536 → length es ≤ 16 → IsText (game_text pieces) (length es)
+pub game_template : (bytes : List ℕ) (pieces : List Piece) (tokens : List Token) (es : List Expr) →
+    GamePieces bytes pieces → AreHoles pieces tokens es → length bytes ≤ 65536 → length es ≤ 16 → IsText (game_text pieces) (length es)
 game_template bytes pieces tokens es read held short few =
     let n = holes_counted held in
     text_read (length es) (game_text pieces) (length es) few (omega (arith, few))

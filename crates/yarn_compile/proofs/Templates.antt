@@ -94,7 +94,15 @@ two_digits n c k rest is other e h = rw (other, is, e, lt-ltb k n h) refl
 digit : (k : ℕ) → k < 10 → is_digit (48 + k) ≡ true
 digit k h = rw (le-leb 48 (48 + k) (omega arith), le-leb (48 + k) 57 (omega arith)) refl
 
-digits_marks : (n k : ℕ) (rest : List ℕ) → k < n → k < 16 → marks n Opened ((decimal k ++ 125 ∷ []) ++ rest) ≡ before (Placeholder k) (marks n Plain rest)
+-- the decimal of 10 and more up to 15
+two_of : (k : ℕ) → 10 ≤ k → k < 16 → decimal k ≡ 49 ∷ (48 + k % 10) ∷ []
+two_of k high low =
+    let tens : k / 10 ≡ 1 = omega arith in
+    decimal_step k high (omega arith) ∙ ap (λ x. decimal x ++ ((48 + k % 10) ∷ [])) tens
+    ∙ ap (λ l. l ++ ((48 + k % 10) ∷ [])) (decimal_digit 1 (omega arith))
+
+digits_marks : (n k : ℕ) (rest : List ℕ) → k < n → k < 16 →
+    marks n Opened ((decimal k ++ 125 ∷ []) ++ rest) ≡ before (Placeholder k) (marks n Plain rest)
 digits_marks n k rest h small = by_test (nat_lt k 10) refl
   where
     by_test : (t : Bool) → nat_lt k 10 ≡ t → marks n Opened ((decimal k ++ 125 ∷ []) ++ rest) ≡ before (Placeholder k) (marks n Plain rest)
@@ -103,9 +111,7 @@ digits_marks n k rest h small = by_test (nat_lt k 10) refl
         rw (decimal_digit k low) (one_digit n (48 + k) k rest (digit k low) (omega arith) h)
     by_test false t =
         let high : 10 ≤ k = grind (arith, nat_tests) in
-        let tens : k / 10 ≡ 1 = omega arith in
-        let own : decimal k ≡ 49 ∷ (48 + k % 10) ∷ [] = decimal_step k high (omega arith) ∙ ap (λ x. decimal x ++ ((48 + k % 10) ∷ [])) tens ∙ ap (λ l. l ++ ((48 + k % 10) ∷ [])) (decimal_digit 1 (omega arith)) in
-        rw own (two_digits n (48 + k % 10) k rest (digit (k % 10) (omega arith)) (grind (arith, nat_tests)) (omega arith) h)
+        rw (two_of k high small) (two_digits n (48 + k % 10) k rest (digit (k % 10) (omega arith)) (grind (arith, nat_tests)) (omega arith) h)
 
 -- a placeholder
 pub placeholder_read : (n k : ℕ) (bytes : List ℕ) (few most : ℕ) → k < n → n ≤ 16 → IsRead n Plain bytes few most →
@@ -139,7 +145,8 @@ Later n bytes short = (p : Place) (own : List Mark) → marks n p bytes ≡ Some
 
 module _ (n b : ℕ) (bytes short : List ℕ) (later : Later n bytes short) where
   byte_kept : (p q : Place) (c : ℕ) (own : List Mark) → marks n p (b ∷ bytes) ≡ before (Stands c) (marks n q bytes) →
-      marks n p (b ∷ short) ≡ before (Stands c) (marks n q short) → marks n p (b ∷ bytes) ≡ Some own → IsRead n p (b ∷ short) (placeholders own) (size own)
+      marks n p (b ∷ short) ≡ before (Stands c) (marks n q short) → marks n p (b ∷ bytes) ≡ Some own →
+      IsRead n p (b ∷ short) (placeholders own) (size own)
   byte_kept p q c own whole less is =
       let f = parts (Stands c) (marks n q bytes) own (sym whole ∙ is) in
       subst (λ l. IsRead n p (b ∷ short) (placeholders l) (size l)) (sym f.all)
@@ -153,18 +160,21 @@ module _ (n b : ℕ) (bytes short : List ℕ) (later : Later n bytes short) wher
       let g = parts (Stands d) (marks n q bytes) f.rest f.is in
       let all : own ≡ Stands c ∷ Stands d ∷ g.rest = f.all ∙ ap (λ l. Stands c ∷ l) g.all in
       subst (λ l. IsRead n p (b ∷ short) (placeholders l) (size l)) (sym all)
-      (weaker n p (b ∷ short) (placeholders g.rest) (2 + size g.rest) (placeholders g.rest) (1 + (1 + size g.rest)) (omega arith) (omega arith)
+      (weaker n p (b ∷ short) (placeholders g.rest) (2 + size g.rest) (placeholders g.rest) (1 + (1 + size g.rest))
+      (omega arith) (omega arith)
       (bytes_more n p q c d (b ∷ short) short (placeholders g.rest) (size g.rest) less (later q g.rest g.is)))
 
   brace_kept : (p q : Place) (c : ℕ) (own : List Mark) → marks n p (b ∷ bytes) ≡ before (Brace c) (marks n q bytes) →
-      marks n p (b ∷ short) ≡ before (Brace c) (marks n q short) → marks n p (b ∷ bytes) ≡ Some own → IsRead n p (b ∷ short) (placeholders own) (size own)
+      marks n p (b ∷ short) ≡ before (Brace c) (marks n q short) → marks n p (b ∷ bytes) ≡ Some own →
+      IsRead n p (b ∷ short) (placeholders own) (size own)
   brace_kept p q c own whole less is =
       let f = parts (Brace c) (marks n q bytes) own (sym whole ∙ is) in
       subst (λ l. IsRead n p (b ∷ short) (placeholders l) (size l)) (sym f.all)
       (brace_more n p q c (b ∷ short) short (placeholders f.rest) (size f.rest) less (later q f.rest f.is))
 
   hole_kept : (p q : Place) (k : ℕ) (own : List Mark) → marks n p (b ∷ bytes) ≡ before (Placeholder k) (marks n q bytes) →
-      marks n p (b ∷ short) ≡ before (Placeholder k) (marks n q short) → marks n p (b ∷ bytes) ≡ Some own → IsRead n p (b ∷ short) (placeholders own) (size own)
+      marks n p (b ∷ short) ≡ before (Placeholder k) (marks n q short) → marks n p (b ∷ bytes) ≡ Some own →
+      IsRead n p (b ∷ short) (placeholders own) (size own)
   hole_kept p q k own whole less is =
       let f = parts (Placeholder k) (marks n q bytes) own (sym whole ∙ is) in
       subst (λ l. IsRead n p (b ∷ short) (placeholders l) (size l)) (sym f.all)
@@ -229,7 +239,8 @@ trailing_read : (n : ℕ) (bytes : List ℕ) → Later n bytes (without_trailing
 trailing_read n [] = λ p own is. record { own = own; is = is; few = omega arith; small = omega arith }
 trailing_read n (b ∷ bytes) = by_test (trailing_read n bytes) (list_all is_blank (b ∷ bytes)) refl
   where
-    by_test : Later n bytes (without_trailing bytes) → (t : Bool) → list_all is_blank (b ∷ bytes) ≡ t → Later n (b ∷ bytes) (without_trailing (b ∷ bytes))
+    by_test : Later n bytes (without_trailing bytes) → (t : Bool) → list_all is_blank (b ∷ bytes) ≡ t →
+        Later n (b ∷ bytes) (without_trailing (b ∷ bytes))
     by_test later true t = rw t (λ p own is. blanks_less n b bytes p own (first_blank b bytes t) is)
     by_test later false t = rw t (front_kept n b bytes (without_trailing bytes) later)
 
@@ -243,7 +254,13 @@ leading_read n (b ∷ bytes) few most r = by_test (leading_read n bytes few most
     by_test later true t =
         let one = blank_is b (λ x. marks n Plain (x ∷ bytes) ≡ before (Stands x) (marks n Plain bytes)) refl refl t in
         let f = parts (Stands b) (marks n Plain bytes) r.own (sym one ∙ r.is) in
-        rw t (later (record { own = f.rest; is = f.is; few = omega (arith, r.few, ap placeholders f.all); small = omega (arith, r.small, ap size f.all) }))
+        let less : IsRead n Plain bytes few most = record {
+          own = f.rest;
+          is = f.is;
+          few = omega (arith, r.few, ap placeholders f.all);
+          small = omega (arith, r.small, ap size f.all);
+        } in
+        rw t (later less)
     by_test later false t = rw t r
 
 -- a text stays a template between its blanks

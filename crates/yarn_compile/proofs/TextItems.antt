@@ -31,7 +31,8 @@ trailing_short : (bytes : List ℕ) → length (without_trailing bytes) ≤ leng
 trailing_short [] = omega arith
 trailing_short (b ∷ bytes) = by_test (trailing_short bytes) (list_all is_blank (b ∷ bytes)) refl
   where
-    by_test : length (without_trailing bytes) ≤ length bytes → (t : Bool) → list_all is_blank (b ∷ bytes) ≡ t → length (without_trailing (b ∷ bytes)) ≤ length (b ∷ bytes)
+    by_test : length (without_trailing bytes) ≤ length bytes → (t : Bool) → list_all is_blank (b ∷ bytes) ≡ t →
+        length (without_trailing (b ∷ bytes)) ≤ length (b ∷ bytes)
     by_test later true t = rw t (omega arith)
     by_test later false t = rw t (omega (arith, later))
 
@@ -62,17 +63,20 @@ text_short piece = omega (arith, leading_short (content piece), trailing_short (
 abbrev pub IsShort : RawLine → Type 0
 IsShort line = length line.text ≤ 65536
 
-line_short : (number at : ℕ) (piece : List ℕ) (lines : List RawLine) → length piece ≤ 65536 → AllByRecursion IsShort lines → AllByRecursion IsShort (with_line number at piece lines)
+line_short : (number at : ℕ) (piece : List ℕ) (lines : List RawLine) → length piece ≤ 65536 → AllByRecursion IsShort lines →
+    AllByRecursion IsShort (with_line number at piece lines)
 line_short number at piece lines h more = by_test (counts (text_of piece)) refl
   where
     by_test : (t : Bool) → counts (text_of piece) ≡ t → AllByRecursion IsShort (with_line number at piece lines)
     by_test true t = rw t (omega (arith, text_short piece), more)
     by_test false t = rw t more
 
-lines_short : (number at : ℕ) (pieces : List (List ℕ)) → All (λ piece. length piece ≤ 65536) pieces → AllByRecursion IsShort (lines_from number at pieces)
+lines_short : (number at : ℕ) (pieces : List (List ℕ)) → All (λ piece. length piece ≤ 65536) pieces →
+    AllByRecursion IsShort (lines_from number at pieces)
 lines_short number at [] h = tt
 lines_short number at (piece ∷ pieces) h =
-    line_short number at piece (lines_from (number + 1) (at + length piece + 1) pieces) (All-head (λ (p : List ℕ). length p ≤ 65536) piece pieces h)
+    line_short number at piece (lines_from (number + 1) (at + length piece + 1) pieces)
+    (All-head (λ (p : List ℕ). length p ≤ 65536) piece pieces h)
     (lines_short (number + 1) (at + length piece + 1) pieces (All-tail (λ (p : List ℕ). length p ≤ 65536) piece pieces h))
 
 -- readable lines are short
