@@ -34,3 +34,8 @@ mod Kept
 mod AskedFunctions
 mod Runs
 mod NodesFollow
+mod Templates
+mod PieceTexts
+mod TextItems
+mod AcceptedTexts
+mod TextRows
