@@ -19,8 +19,7 @@ use Rattle.yarn_expr.specs.declared.tree.Expr.TheViews.{roll-Expr}
 use Rattle.yarn_expr.specs.declared.tree.Expr.TheFolds.{fold-roll-Expr, map-Expr, ind-Expr}
 use Rattle.yarn_types.specs.Typings.{kinds_in}
 use Rattle.yarn_value.specs.Signatures.{signature_named}
-use Rattle.yarn_types.specs.Fits as fits
-use Rattle.yarn_types.specs.Fits.{kind_step, unary_kind}
+use Rattle.yarn_types.specs.Fits.{unary_kind}
 use Rattle.yarn_code.specs.Moments.{State, Behaviour, stands, with_tape}
 use Rattle.yarn_code.specs.Moments as moments
 use Rattle.yarn_value.specs.Pairs.{Pairs, value_under}
@@ -33,8 +32,8 @@ use Rattle.yarn_code.specs.declared.program.Instr.TheVariants as instr
 use Rattle.yarn_code.specs.declared.program.Coded.{Coded}
 use Rattle.yarn_code.specs.Parts.{coded}
 use Rattle.yarn_code.specs.declared.program.Program.{Program}
-use Rattle.yarn_compile.specs.Code.{Terms, unary_name, binary_name, TypedCode, code_of_all, code_step, typed_expr, expr_code, exprs_code}
-use Rattle.yarn_kinds.specs.Typed.{variables_in, Keeps}
+use Rattle.yarn_compile.specs.Code.{Terms, kind_of_node, unary_name, binary_name, TypedCode, code_of_all, code_step, typed_expr, expr_code, exprs_code}
+use Rattle.yarn_kinds.specs.Typed.{variables_in}
 use Rattle.yarn_kinds.specs.Strict.{strict_then, strict_value, strict_outcome, strict_called, strict_each, strict_step, strict}
 use Rattle.yarn_kinds.proofs.Names.{Each}
 use Rattle.yarn_kinds.proofs.Values.{kinds}
@@ -44,7 +43,7 @@ use Rattle.yarn_code.specs.Machine.{Quiet, StandsAt, Stuck, when_some, scope_at,
 use Rattle.yarn_code.specs.Listed.{pushed}
 use Rattle.yarn_compile.proofs.Follows.{Stands, first_stands, front_stands, back_stands, running, Site, here_of, scope_in, take_pushed, coded_node, Follows, quiet, halts, at_place, via, breaks_here, step}
 use Rattle.yarn_compile.proofs.Rows.{operators_have_rows}
-use Rattle.yarn_compile.proofs.Kinded.{left_kinded, right_kinded, in_kinded, AllKinded, args_kinded, kind_in_code}
+use Rattle.yarn_compile.proofs.Kinded.{own_kind, KeepsOwn, left_kinded, right_kinded, in_kinded, AllKinded, args_kinded, kind_in_code}
 
 -- two steps of an evaluation that gives a value
 pub chained : {A B : Type 0} (ev : Evaluated A) (f : A → Tape → Evaluated B) (v : A) (t : Tape) (r : Evaluated B) → ev ≡ Gives v t → f v t ≡ r →
@@ -70,33 +69,33 @@ exact_on s (Halts x t) g f is h = ap (λ x. strict_then x g) is
 
 -- ---- expressions that have a kind
 
-module _ (terms : Terms) (p : Program) (site : Site terms p) (store : Pairs) (keeps : Keeps (variables_in terms.entries) (kinds_in terms.entries) store) where
+module _ (terms : Terms) (p : Program) (site : Site terms p) (store : Pairs) (keeps : KeepsOwn terms store) where
   -- the kind is that of the value
   pub value_kind : (e : Expr) (t left : Tape) (v : Value) →
-      is_some (fits.kind_of terms.signatures (variables_in terms.entries) (kinds_in terms.entries) e) ≡ true → eval (scope_in site) store e t ≡ Gives v left →
-      fits.kind_of terms.signatures (variables_in terms.entries) (kinds_in terms.entries) e ≡ Some (kind_of v)
-  value_kind e t left v there is = of_kind (fits.kind_of terms.signatures (variables_in terms.entries) (kinds_in terms.entries) e) refl there
+      is_some (own_kind terms e) ≡ true → eval (scope_in site) store e t ≡ Gives v left →
+      own_kind terms e ≡ Some (kind_of v)
+  value_kind e t left v there is = of_kind (own_kind terms e) refl there
     where
-      of_kind : (o : Option Kind) → fits.kind_of terms.signatures (variables_in terms.entries) (kinds_in terms.entries) e ≡ o → is_some o ≡ true → o ≡ Some (kind_of v)
+      of_kind : (o : Option Kind) → own_kind terms e ≡ o → is_some o ≡ true → o ≡ Some (kind_of v)
       of_kind None h there' = cc
       of_kind (Some k) h there' = ap Some (sym (kinds (scope_in site) (variables_in terms.entries) (kinds_in terms.entries) store e k t left v keeps h is))
 
   -- and nothing is made up
-  exact_in : (e : Expr) (t : Tape) → is_some (fits.kind_of terms.signatures (variables_in terms.entries) (kinds_in terms.entries) e) ≡ true →
+  exact_in : (e : Expr) (t : Tape) → is_some (own_kind terms e) ≡ true →
       strict (scope_in site) store e t ≡ Some (eval (scope_in site) store e t)
-  exact_in e t there = of_kind (fits.kind_of terms.signatures (variables_in terms.entries) (kinds_in terms.entries) e) refl there
+  exact_in e t there = of_kind (own_kind terms e) refl there
     where
-      of_kind : (o : Option Kind) → fits.kind_of terms.signatures (variables_in terms.entries) (kinds_in terms.entries) e ≡ o → is_some o ≡ true →
+      of_kind : (o : Option Kind) → own_kind terms e ≡ o → is_some o ≡ true →
           strict (scope_in site) store e t ≡ Some (eval (scope_in site) store e t)
       of_kind None h there' = cc
       of_kind (Some k) h there' = makes_nothing_up (scope_in site) (variables_in terms.entries) (kinds_in terms.entries) store e k t keeps h
 
   -- the same of one layer
   exact_as : (e : Expr) (s : Tape → Option (Evaluated Value)) (ev : Tape → Evaluated Value) → strict (scope_in site) store e ≡ s → eval (scope_in site) store e ≡ ev →
-      is_some (fits.kind_of terms.signatures (variables_in terms.entries) (kinds_in terms.entries) e) ≡ true → (t : Tape) → s t ≡ Some (ev t)
+      is_some (own_kind terms e) ≡ true → (t : Tape) → s t ≡ Some (ev t)
   exact_as e s ev es ee there t = sym (ap (λ f. f t) es) ∙ exact_in e t there ∙ ap (λ f. Some (f t)) ee
 
-  exact_each : (es : List Expr) → Each (λ e. is_some (fits.kind_of terms.signatures (variables_in terms.entries) (kinds_in terms.entries) e) ≡ true) es → (t : Tape) →
+  exact_each : (es : List Expr) → Each (λ e. is_some (own_kind terms e) ≡ true) es → (t : Tape) →
       strict_each (map (strict (scope_in site) store) es) t ≡ Some (eval_all (scope_in site) store es t)
   exact_each [] h t = refl
   exact_each (e ∷ es) h t =
@@ -290,22 +289,19 @@ module _ (terms : Terms) (p : Program) (site : Site terms p) (n : ℕ) (line : �
 
   -- ---- all expressions that have a kind
 
-  abbrev pub kind_under : Expr → Option Kind
-  kind_under = fits.kind_of terms.signatures (variables_in terms.entries) (kinds_in terms.entries)
-
   abbrev P : Expr → Type 0
-  P e = is_some (kind_under e) ≡ true → Computed e
+  P e = is_some (own_kind terms e) ≡ true → Computed e
 
   computed_as : (e : Expr) (c : TypedCode) (ev : Tape → Evaluated Value) → typed_expr terms line e ≡ c →
       eval (scope_in site) st.store e ≡ ev → Computes c.code ev → Computed e
   computed_as e c ev ec ee h = subst (λ x. Computes x.code (eval (scope_in site) st.store e)) (sym ec) (subst (λ x. Computes c.code x) (sym ee) h)
 
-  each_computed : (es : List ((e : Expr) × P e)) → AllKinded (map kind_under (map (λ z. z.0) es)) → Each Computed (map (λ z. z.0) es)
+  each_computed : (es : List ((e : Expr) × P e)) → AllKinded (map (own_kind terms) (map (λ z. z.0) es)) → Each Computed (map (λ z. z.0) es)
   each_computed [] h = tt
   each_computed (e ∷ es) h = (e.1 h.0, each_computed es h.1)
 
-  module _ (keeps : Keeps (variables_in terms.entries) (kinds_in terms.entries) st.store) where
-    left_row : (op : _) (e : Expr) (v : Value) (t t1 : Tape) → is_some (kind_under e) ≡ true → eval (scope_in site) st.store e t ≡ Gives v t1 →
+  module _ (keeps : KeepsOwn terms st.store) where
+    left_row : (op : _) (e : Expr) (v : Value) (t t1 : Tape) → is_some (own_kind terms e) ≡ true → eval (scope_in site) st.store e t ≡ Gives v t1 →
         builtin_named (binary_name op (typed_expr terms line e).kind) ≡ Some (applied (binary_name op (typed_expr terms line e).kind) (binary_op op v))
     left_row op e v t t1 there gives =
         let k = kind_in_code terms line e ∙ value_kind terms p site st.store keeps e t t1 v there gives in
@@ -323,7 +319,7 @@ module _ (terms : Terms) (p : Program) (site : Site terms p) (n : ℕ) (line : �
         ∙ ap (λ o. when_some o Stuck (λ v1. Quiet (at (pc + 1) (Val v1 ∷ stack) pending t))) e)
         (subst (λ v1. Follows p n (at (pc + 1) (Val v1 ∷ stack) pending t) (go (stored st.store x) t)) (sym is) (f (stored st.store x) t refl))
 
-    each_there : (es : List Expr) → AllKinded (map kind_under es) → Each (λ e. is_some (kind_under e) ≡ true) es
+    each_there : (es : List Expr) → AllKinded (map (own_kind terms) es) → Each (λ e. is_some (own_kind terms e) ≡ true) es
     each_there [] h = tt
     each_there (e ∷ es) h = (h.0, each_there es h.1)
 
@@ -344,11 +340,11 @@ module _ (terms : Terms) (p : Program) (site : Site terms p) (n : ℕ) (line : �
         exact_as terms p site st.store keeps (roll-Expr (Expr-F.Variable x)) _ _ es ee h in
         computed_as _ _ _ (fold-roll-Expr _ (code_step terms line) (Expr-F.Variable x)) ee (variable_follows x (value_under st.store x) refl exact)
     at_layer (Expr-F.Group e) h =
-        let there = subst (λ k. is_some k ≡ true) (fold-roll-Expr _ (kind_step terms.signatures (variables_in terms.entries) (kinds_in terms.entries)) (Expr-F.Group e.0)) h in
+        let there = subst (λ k. is_some k ≡ true) (fold-roll-Expr _ (kind_of_node terms) (Expr-F.Group e.0)) h in
         computed_as _ _ _ (fold-roll-Expr _ (code_step terms line) (Expr-F.Group e.0)) (fold-roll-Expr _ (eval_step (scope_in site) st.store) (Expr-F.Group e.0)) (e.1 there)
     at_layer (Expr-F.Unary op e) h =
-        let there = subst (λ k. is_some k ≡ true) (fold-roll-Expr _ (kind_step terms.signatures (variables_in terms.entries) (kinds_in terms.entries)) (Expr-F.Unary op e.0)) h in
-        let inner = in_kinded (unary_kind op) (unary_kind op) (kind_under e.0) there in
+        let there = subst (λ k. is_some k ≡ true) (fold-roll-Expr _ (kind_of_node terms) (Expr-F.Unary op e.0)) h in
+        let inner = in_kinded (unary_kind op) (unary_kind op) (own_kind terms e.0) there in
         let es = fold-roll-Expr _ (strict_step (scope_in site) st.store) (Expr-F.Unary op e.0) in
         let ee = fold-roll-Expr _ (eval_step (scope_in site) st.store) (Expr-F.Unary op e.0) in
         let exact = exact_as terms p site st.store keeps (roll-Expr (Expr-F.Unary op e.0)) _ _ es ee h in
@@ -357,9 +353,9 @@ module _ (terms : Terms) (p : Program) (site : Site terms p) (n : ℕ) (line : �
         (λ v t t1 e1. exact_then _ _ (λ v1 t2. strict_outcome (operation (unary_op op) (v1 ∷ [])) t2) (λ v1 t2. operated (unary_op op) (v1 ∷ []) t2) v t1 (exact_in terms p site st.store keeps e.0 t inner) (exact t) e1)
         (e.1 inner))
     at_layer (Expr-F.Binary op l r) h =
-        let there = subst (λ k. is_some k ≡ true) (fold-roll-Expr _ (kind_step terms.signatures (variables_in terms.entries) (kinds_in terms.entries)) (Expr-F.Binary op l.0 r.0)) h in
-        let left = left_kinded op (kind_under l.0) (kind_under r.0) there in
-        let right = right_kinded op (kind_under l.0) (kind_under r.0) there in
+        let there = subst (λ k. is_some k ≡ true) (fold-roll-Expr _ (kind_of_node terms) (Expr-F.Binary op l.0 r.0)) h in
+        let left = left_kinded op (own_kind terms l.0) (own_kind terms r.0) there in
+        let right = right_kinded op (own_kind terms l.0) (own_kind terms r.0) there in
         let es = fold-roll-Expr _ (strict_step (scope_in site) st.store) (Expr-F.Binary op l.0 r.0) in
         let ee = fold-roll-Expr _ (eval_step (scope_in site) st.store) (Expr-F.Binary op l.0 r.0) in
         let exact = exact_as terms p site st.store keeps (roll-Expr (Expr-F.Binary op l.0 r.0)) _ _ es ee h in
@@ -375,8 +371,8 @@ module _ (terms : Terms) (p : Program) (site : Site terms p) (n : ℕ) (line : �
         (l.1 left) (r.1 right))
     at_layer (Expr-F.Call name ys) h =
         let es : List Expr = map (λ z. z.0) ys in
-        let there = subst (λ k. is_some k ≡ true) (fold-roll-Expr _ (kind_step terms.signatures (variables_in terms.entries) (kinds_in terms.entries)) (Expr-F.Call name es)) h in
-        let all = args_kinded (builtin_named name) (signature_named terms.signatures name) (map kind_under es) there in
+        let there = subst (λ k. is_some k ≡ true) (fold-roll-Expr _ (kind_of_node terms) (Expr-F.Call name es)) h in
+        let all = args_kinded (builtin_named name) (signature_named terms.signatures name) (map (own_kind terms) es) there in
         let parts = each_computed ys all in
         let ec = fold-roll-Expr TypedCode (code_step terms line) (Expr-F.Call name es) in
         let whole : (typed_expr terms line (roll-Expr (Expr-F.Call name es))).code ≡ exprs_code terms line es ++ coded line (instr.CallFunc (length es) name) ∷ [] =
@@ -392,14 +388,14 @@ module _ (terms : Terms) (p : Program) (site : Site terms p) (n : ℕ) (line : �
         (subst (λ ev. Computes (exprs_code terms line es ++ coded line (instr.CallFunc (length es) name) ∷ []) ev) (sym ee)
         (computes_call name es (λ vs t t1 e1. exact_then _ _ strict_calls calls_it vs t1 (exact_each terms p site st.store keeps es (each_there es all) t) (exact t) e1) parts))
 
-    pub expr_follows : (e : Expr) → is_some (kind_under e) ≡ true → Computed e
+    pub expr_follows : (e : Expr) → is_some (own_kind terms e) ≡ true → Computed e
     expr_follows = ind-Expr P (λ x y is'. subst (λ z. P (roll-Expr z)) is' (at_layer y))
 
-    each_follows : (es : List Expr) → Each (λ e. is_some (kind_under e) ≡ true) es → Each Computed es
+    each_follows : (es : List Expr) → Each (λ e. is_some (own_kind terms e) ≡ true) es → Each Computed es
     each_follows [] h = tt
     each_follows (e ∷ es) h = (expr_follows e h.0, each_follows es h.1)
 
-    pub exprs_follow : (es : List Expr) → Each (λ e. is_some (kind_under e) ≡ true) es →
+    pub exprs_follow : (es : List Expr) → Each (λ e. is_some (own_kind terms e) ≡ true) es →
         (pc : ℕ) (stack : Stack) (pending : List Offer) (t : Tape) (go : List Value → Tape → Behaviour) →
         Stands site.code pc (exprs_code terms line es) →
         ((vs : List Value) (t1 : Tape) → eval_all (scope_in site) st.store es t ≡ Gives vs t1 → length vs ≡ length es →

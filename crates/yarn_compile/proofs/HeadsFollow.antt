@@ -11,9 +11,7 @@ use Rattle.yarn_blocks.specs.Tree as T
 use Rattle.yarn_blocks.specs.Tree.{NoOptions, AndOption, Offered}
 use Rattle.yarn_types.specs.KindSets.{only}
 use Rattle.yarn_types.specs.Typings.{kinds_in}
-use Rattle.yarn_types.specs.Fits as fits
 use Rattle.yarn_types.specs.Fits.{is_in}
-use Rattle.yarn_types.specs.Units.{has_kind, is_truth}
 use Rattle.yarn_code.specs.declared.event.Choice.{Choice}
 use Rattle.yarn_code.specs.Moments.{State, Behaviour, stands, with_tape}
 use Rattle.yarn_value.specs.Pairs.{Pairs}
@@ -27,13 +25,14 @@ use Rattle.yarn_code.specs.declared.program.Coded.{Coded}
 use Rattle.yarn_code.specs.Parts.{coded}
 use Rattle.yarn_code.specs.declared.program.Program.{Program}
 use Rattle.yarn_compile.specs.Code.{Terms, expr_code, exprs_code, condition_code, head_size, heads_size, size_all, head_code, heads_code}
-use Rattle.yarn_kinds.specs.Typed.{variables_in, Keeps}
+use Rattle.yarn_kinds.specs.Typed.{variables_in}
 use Rattle.yarn_code.specs.MachineState.{Value as Val, Stack, Offer, choices}
 use Rattle.yarn_code.specs.Machine.{offer, Quiet, Stuck, next}
 use Rattle.yarn_code.specs.Listed.{pushed}
 use Rattle.yarn_kinds.proofs.Asked.{conditions}
 use Rattle.yarn_kinds.proofs.Fitting.{FitsLine, offer_asks}
 use Rattle.yarn_compile.proofs.Follows.{Stands, first_stands, front_stands, back_stands, stands_as, running, Site, here_of, scope_in, take_pushed, Follows, quiet, at_place, step, via}
+use Rattle.yarn_compile.proofs.Kinded.{own_kind, is_kinded, KeepsOwn}
 use Rattle.yarn_compile.proofs.Fitted.{in_set_kinded, each_kinded}
 use Rattle.yarn_compile.proofs.ExpressionsCompute.{expr_follows, exprs_follow}
 use Rattle.yarn_compile.proofs.SizesOfCode.{length-head}
@@ -50,22 +49,22 @@ module _ (terms : Terms) (title : List ℕ) where
 -- what the fitting of an option says
 holes_fit : (terms : Terms) (holes : List Expr) (c : Option Expr) →
     FitsLine terms.signatures terms.entries (offer_asks holes c) →
-    list_all (has_kind terms.signatures (variables_in terms.entries) (kinds_in terms.entries)) holes ≡ true
+    list_all (is_kinded terms) holes ≡ true
 holes_fit terms holes None h = h
-holes_fit terms holes (Some e) h = (and_parts (list_all (has_kind terms.signatures (variables_in terms.entries) (kinds_in terms.entries)) holes) (is_truth terms.signatures (variables_in terms.entries) (kinds_in terms.entries) e) h).0
+holes_fit terms holes (Some e) h = (and_parts (list_all (is_kinded terms) holes) (is_in (only kind.Truth) (own_kind terms e)) h).0
 
 -- a condition is a truth
 abbrev AskedKinded : Terms → Option Expr → Type 0
 AskedKinded terms None = Unit {0}
-AskedKinded terms (Some e) = is_in (only kind.Truth) (fits.kind_of terms.signatures (variables_in terms.entries) (kinds_in terms.entries) e) ≡ true
+AskedKinded terms (Some e) = is_in (only kind.Truth) (own_kind terms e) ≡ true
 
 asked_fit : (terms : Terms) (holes : List Expr) (c : Option Expr) →
     FitsLine terms.signatures terms.entries (offer_asks holes c) → AskedKinded terms c
 asked_fit terms holes None h = tt
 asked_fit terms holes (Some e) h =
-    (and_parts (list_all (has_kind terms.signatures (variables_in terms.entries) (kinds_in terms.entries)) holes) (is_truth terms.signatures (variables_in terms.entries) (kinds_in terms.entries) e) h).1
+    (and_parts (list_all (is_kinded terms) holes) (is_in (only kind.Truth) (own_kind terms e)) h).1
 
-module _ (terms : Terms) (p : Program) (site : Site terms p) (n : ℕ) (x : Exits) (halting : (line : ℕ) (h : Halt) (st : State) → x.halts line h st ≡ stands (halts_at site.node line h) st) (Good : Pairs → Type 0) (keeps : (store : Pairs) → Good store → Keeps (variables_in terms.entries) (kinds_in terms.entries) store) where
+module _ (terms : Terms) (p : Program) (site : Site terms p) (n : ℕ) (x : Exits) (halting : (line : ℕ) (h : Halt) (st : State) → x.halts line h st ≡ stands (halts_at site.node line h) st) (Good : Pairs → Type 0) (keeps : (store : Pairs) → Good store → KeepsOwn terms store) where
   abbrev title : List ℕ
   title = site.node.node.title
 
@@ -85,7 +84,7 @@ module _ (terms : Terms) (p : Program) (site : Site terms p) (n : ℕ) (x : Exit
       ∙ take_pushed vs count stack Stuck (λ vs1 rest. Quiet (running (here_of site) (pc + 0 + 1) rest (pending ++ offer id vs1 true label ∷ []) (with_tape t st))) len) (f true t))
   asked_follows (Some e) there pc line count label id vs stack pending t st go good len laid last f =
       let pe : ℕ = pc + length (expr_code terms line e) in
-      let kinded = in_set_kinded (only kind.Truth) (fits.kind_of terms.signatures (variables_in terms.entries) (kinds_in terms.entries) e) there in
+      let kinded = in_set_kinded (only kind.Truth) (own_kind terms e) there in
       via p n _ (eval (scope_in site) st.store e t) (λ v t1. Gives (is_true v) t1) go (λ h t1. stands (halts_at site.node line h) (with_tape t1 st))
       (expr_follows terms p site n line st (keeps st.store good) e kinded pc (pushed vs stack) pending t (λ v t1. go (is_true v) t1) laid (λ v t1 gives.
       let truth = conditions (scope_in site) (variables_in terms.entries) (kinds_in terms.entries) st.store e t t1 v (keeps st.store good) there gives in

@@ -13,9 +13,23 @@ use Rattle.yarn_expr.specs.declared.tree.Expr.TheFolds.{fold-roll-Expr, map-Expr
 use Rattle.yarn_types.specs.Typings.{kinds_in}
 use Rattle.yarn_types.specs.KindSets.{only}
 use Rattle.yarn_types.specs.Fits as fits
-use Rattle.yarn_types.specs.Fits.{joined, is_in, takes_each, kinds_of, row_takes, called, kind_step}
-use Rattle.yarn_compile.specs.Code.{Terms, TypedCode, kinds_of_all, code_step, typed_expr}
-use Rattle.yarn_kinds.specs.Typed.{variables_in}
+use Rattle.yarn_types.specs.Fits.{joined, is_in, takes_each, kinds_of, row_takes, called}
+use Rattle.yarn_value.specs.Pairs.{Pairs}
+use Rattle.yarn_compile.specs.Code.{Terms, kind_of_node, TypedCode, kinds_of_all, code_step, typed_expr}
+use Rattle.yarn_kinds.specs.Typed.{variables_in, Keeps}
+
+-- ---- under the typing of the project
+
+-- the kind of an expression
+abbrev pub own_kind : Terms → Expr → Option Kind
+own_kind terms = fits.kind_of terms.signatures (variables_in terms.entries) (kinds_in terms.entries)
+
+abbrev pub is_kinded : Terms → Expr → Bool
+is_kinded terms e = is_some (own_kind terms e)
+
+-- the store has the variables in their kinds
+abbrev pub KeepsOwn : Terms → Pairs → Type 0
+KeepsOwn terms = Keeps (variables_in terms.entries) (kinds_in terms.entries)
 
 -- ---- parts with a kind
 
@@ -74,50 +88,44 @@ args_kinded None None ks h = absurd cc
 -- ---- the kind in the code
 
 module _ (terms : Terms) (line : ℕ) where
-  abbrev pub kind_in : Expr → Option Kind
-  kind_in = fits.kind_of terms.signatures (variables_in terms.entries) (kinds_in terms.entries)
-
   abbrev code_in : Expr → TypedCode
   code_in = typed_expr terms line
 
   abbrev Same : Expr → Type 0
-  Same e = (code_in e).kind ≡ kind_in e
+  Same e = (code_in e).kind ≡ own_kind terms e
 
-  step_in : Expr-F (Option Kind) → Option Kind
-  step_in = kind_step terms.signatures (variables_in terms.entries) (kinds_in terms.entries)
-
-  kinds_same : (es : List ((e : Expr) × Same e)) → kinds_of_all (map code_in (map (λ z. z.0) es)) ≡ map kind_in (map (λ z. z.0) es)
+  kinds_same : (es : List ((e : Expr) × Same e)) → kinds_of_all (map code_in (map (λ z. z.0) es)) ≡ map (own_kind terms) (map (λ z. z.0) es)
   kinds_same [] = refl
   kinds_same (e ∷ es) = λ i. e.1 i ∷ kinds_same es i
 
   at_layer : (y : Expr-F ((e : Expr) × Same e)) → Same (roll-Expr (map-Expr ((e : Expr) × Same e) Expr (λ z. z.0) y))
   at_layer (Expr-F.Number n) =
       ap (λ c. c.kind) (fold-roll-Expr TypedCode (code_step terms line) (Expr-F.Number n))
-      ∙ sym (fold-roll-Expr (Option Kind) (kind_step terms.signatures (variables_in terms.entries) (kinds_in terms.entries)) (Expr-F.Number n))
+      ∙ sym (fold-roll-Expr (Option Kind) (kind_of_node terms) (Expr-F.Number n))
   at_layer (Expr-F.Str text) =
       ap (λ c. c.kind) (fold-roll-Expr TypedCode (code_step terms line) (Expr-F.Str text))
-      ∙ sym (fold-roll-Expr (Option Kind) (kind_step terms.signatures (variables_in terms.entries) (kinds_in terms.entries)) (Expr-F.Str text))
+      ∙ sym (fold-roll-Expr (Option Kind) (kind_of_node terms) (Expr-F.Str text))
   at_layer (Expr-F.Truth b) =
       ap (λ c. c.kind) (fold-roll-Expr TypedCode (code_step terms line) (Expr-F.Truth b))
-      ∙ sym (fold-roll-Expr (Option Kind) (kind_step terms.signatures (variables_in terms.entries) (kinds_in terms.entries)) (Expr-F.Truth b))
+      ∙ sym (fold-roll-Expr (Option Kind) (kind_of_node terms) (Expr-F.Truth b))
   at_layer (Expr-F.Variable name) =
       ap (λ c. c.kind) (fold-roll-Expr TypedCode (code_step terms line) (Expr-F.Variable name))
-      ∙ sym (fold-roll-Expr (Option Kind) (kind_step terms.signatures (variables_in terms.entries) (kinds_in terms.entries)) (Expr-F.Variable name))
+      ∙ sym (fold-roll-Expr (Option Kind) (kind_of_node terms) (Expr-F.Variable name))
   at_layer (Expr-F.Group e) =
       ap (λ c. c.kind) (fold-roll-Expr TypedCode (code_step terms line) (Expr-F.Group e.0)) ∙ e.1
-      ∙ sym (fold-roll-Expr (Option Kind) (kind_step terms.signatures (variables_in terms.entries) (kinds_in terms.entries)) (Expr-F.Group e.0))
+      ∙ sym (fold-roll-Expr (Option Kind) (kind_of_node terms) (Expr-F.Group e.0))
   at_layer (Expr-F.Unary op e) =
       ap (λ c. c.kind) (fold-roll-Expr TypedCode (code_step terms line) (Expr-F.Unary op e.0))
-      ∙ ap (λ k. kind_step terms.signatures (variables_in terms.entries) (kinds_in terms.entries) (Expr-F.Unary op k)) e.1
-      ∙ sym (fold-roll-Expr (Option Kind) (kind_step terms.signatures (variables_in terms.entries) (kinds_in terms.entries)) (Expr-F.Unary op e.0))
+      ∙ ap (λ k. kind_of_node terms (Expr-F.Unary op k)) e.1
+      ∙ sym (fold-roll-Expr (Option Kind) (kind_of_node terms) (Expr-F.Unary op e.0))
   at_layer (Expr-F.Binary op l r) =
       ap (λ c. c.kind) (fold-roll-Expr TypedCode (code_step terms line) (Expr-F.Binary op l.0 r.0))
-      ∙ (λ i. kind_step terms.signatures (variables_in terms.entries) (kinds_in terms.entries) (Expr-F.Binary op (l.1 i) (r.1 i)))
-      ∙ sym (fold-roll-Expr (Option Kind) (kind_step terms.signatures (variables_in terms.entries) (kinds_in terms.entries)) (Expr-F.Binary op l.0 r.0))
+      ∙ (λ i. kind_of_node terms (Expr-F.Binary op (l.1 i) (r.1 i)))
+      ∙ sym (fold-roll-Expr (Option Kind) (kind_of_node terms) (Expr-F.Binary op l.0 r.0))
   at_layer (Expr-F.Call name es) =
       ap (λ c. c.kind) (fold-roll-Expr TypedCode (code_step terms line) (Expr-F.Call name (map (λ z. z.0) es)))
-      ∙ ap (λ ks. kind_step terms.signatures (variables_in terms.entries) (kinds_in terms.entries) (Expr-F.Call name ks)) (kinds_same es)
-      ∙ sym (fold-roll-Expr (Option Kind) (kind_step terms.signatures (variables_in terms.entries) (kinds_in terms.entries)) (Expr-F.Call name (map (λ z. z.0) es)))
+      ∙ ap (λ ks. kind_of_node terms (Expr-F.Call name ks)) (kinds_same es)
+      ∙ sym (fold-roll-Expr (Option Kind) (kind_of_node terms) (Expr-F.Call name (map (λ z. z.0) es)))
 
-  pub kind_in_code : (e : Expr) → (typed_expr terms line e).kind ≡ fits.kind_of terms.signatures (variables_in terms.entries) (kinds_in terms.entries) e
+  pub kind_in_code : (e : Expr) → (typed_expr terms line e).kind ≡ own_kind terms e
   kind_in_code = ind-Expr Same (λ x y is. subst (λ z. Same (roll-Expr z)) is (at_layer y))

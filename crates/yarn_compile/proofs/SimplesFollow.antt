@@ -13,9 +13,8 @@ use Rattle.yarn_blocks.specs.declared.entry.Simple.TheVariants as simple
 use Rattle.yarn_blocks.specs.declared.tree.LineText.{LineText}
 use Rattle.yarn_types.specs.KindSets.{only}
 use Rattle.yarn_types.specs.Typings.{kinds_in}
-use Rattle.yarn_types.specs.Fits as fits
-use Rattle.yarn_types.specs.Fits.{kind_of_variable, is_in, joined}
-use Rattle.yarn_types.specs.Units.{has_kind, kind_set}
+use Rattle.yarn_types.specs.Fits.{joined}
+use Rattle.yarn_types.specs.Units.{kind_set}
 use Rattle.yarn_value.specs.Pairs.{put, Pairs}
 use Rattle.yarn_value.specs.Templates.{Part, template_of, expanded}
 use Rattle.yarn_code.specs.declared.event.Event.{Event}
@@ -31,7 +30,7 @@ use Rattle.yarn_code.specs.declared.program.Instr.TheVariants as instr
 use Rattle.yarn_code.specs.declared.program.Instr.{Instr}
 use Rattle.yarn_code.specs.Parts.{coded, line_of}
 use Rattle.yarn_code.specs.declared.program.Program.{Program}
-use Rattle.yarn_compile.specs.Code.{Terms, expr_code, exprs_code, exit_code, store_code, simple_code}
+use Rattle.yarn_compile.specs.Code.{Terms, kind_of_name, expr_code, exprs_code, exit_code, store_code, simple_code}
 use Rattle.yarn_kinds.specs.Typed.{variables_in}
 use Rattle.yarn_code.specs.MachineState.{Value as Val, Stack, Rest, Line, Command, Rests, MachineState, machine}
 use Rattle.yarn_code.specs.Machine.{Quiet, Shows, Stuck, when_some, act, next}
@@ -39,6 +38,7 @@ use Rattle.yarn_code.specs.Listed.{pushed}
 use Rattle.yarn_kinds.proofs.Asked.{titles}
 use Rattle.yarn_code.specs.Kinds.{HasKind}
 use Rattle.yarn_compile.proofs.Follows.{Stands, first_stands, rest_stands, front_stands, back_stands, running, Site, here_of, scope_in, take_pushed, coded_node, Follows, quiet, shows_same, at_place, step}
+use Rattle.yarn_compile.proofs.Kinded.{own_kind, is_kinded}
 use Rattle.yarn_compile.proofs.Fitted.{in_set_kinded, joined_kind, each_kinded, set_expr, set_code-is, set_value-is, set_kind-is}
 use Rattle.yarn_compile.proofs.ExpressionsCompute.{value_kind, expr_follows, exprs_follow}
 use Rattle.yarn_compile.proofs.Leaving.{exit_follows, stop_follows, run_follows}
@@ -62,9 +62,6 @@ module _ (terms : Terms) (p : Program) (site : Site terms p) (n : ℕ) (Good : P
       (st : State) (way : Way terms p site n Good outs (pc + size) stack) → Good st.store →
       Follows p n (running (here_of site) pc stack [] st) (after (f st) (exits terms p site n Good outs (pc + size) stack way))
 
-  abbrev kind_under : Expr → Option Kind
-  kind_under = fits.kind_of terms.signatures (variables_in terms.entries) (kinds_in terms.entries)
-
   counted_good : (store : Pairs) (v : Value) → Good store → kind_of v ≡ kind.Number → Good (put store (count_name title) v)
   counted_good store v good k = outs.puts store (count_name title) v good (subst (HasKind store (count_name title)) (sym k) (outs.counts store good))
 
@@ -74,7 +71,7 @@ module _ (terms : Terms) (p : Program) (site : Site terms p) (n : ℕ) (Good : P
       ((pc : ℕ) (stack : Stack) (st : State) (vs : List Value) → length vs ≡ length text.holes →
       act p (coded_node site.node site.code) text.line i (at pc (pushed vs stack) st) ≡ Shows (shown vs) (machine (here_of site) (pc + 1) stack [] (Rests (rest vs)) st)) →
       ((pc : ℕ) (stack : Stack) (st : State) (vs : List Value) → next p (machine (here_of site) pc stack [] (Rests (rest vs)) st) ≡ Quiet (at pc stack st)) →
-      list_all (has_kind terms.signatures (variables_in terms.entries) (kinds_in terms.entries)) text.holes ≡ true → (pc : ℕ) (stack : Stack) → Stands site.code pc (exprs_code terms text.line text.holes ++ coded text.line i ∷ []) →
+      list_all (is_kinded terms) text.holes ≡ true → (pc : ℕ) (stack : Stack) → Stands site.code pc (exprs_code terms text.line text.holes ++ coded text.line i ∷ []) →
       FollowsStmt (length (exprs_code terms text.line text.holes ++ coded text.line i ∷ [])) (says (scope_in site) text shown) pc stack
   says_follow text i shown rest acts goes fit pc stack laid st way good =
       let cs = exprs_code terms text.line text.holes in
@@ -109,8 +106,8 @@ module _ (terms : Terms) (p : Program) (site : Site terms p) (n : ℕ) (Good : P
 
   -- ---- what is set
 
-  set_follows : (line : ℕ) (name : List ℕ) (e : Expr) → is_some (kind_under e) ≡ true → ((store : Pairs) (v : Value) → Good store →
-      kind_under e ≡ Some (kind_of v) → Good (put store name v)) →
+  set_follows : (line : ℕ) (name : List ℕ) (e : Expr) → is_some (own_kind terms e) ≡ true → ((store : Pairs) (v : Value) → Good store →
+      own_kind terms e ≡ Some (kind_of v) → Good (put store name v)) →
       (pc : ℕ) (stack : Stack) → Stands site.code pc (expr_code terms line e ++ store_code terms line name) →
       (st : State) (k : State → Behaviour) → Good st.store →
       ((st1 : State) → Good st1.store → Follows p n (at (pc + length (expr_code terms line e ++ store_code terms line name)) stack st1) (k st1)) →
@@ -137,12 +134,12 @@ module _ (terms : Terms) (p : Program) (site : Site terms p) (n : ℕ) (Good : P
       says_follow text (instr.RunCommand (length text.holes) text.text) (λ vs. event.Command (filled text.text vs)) (λ vs. Command (filled text.text vs))
       (command_acts text (template_of text.text (length text.holes)) refl fit.1.template) (λ pc1 stack1 st1 vs. refl) fit.0 pc stack laid st way good
   simple_follows (simple.Set head name op e) pc stack fit laid st way good =
-      let both = joined_kind Eq (kind_of_variable (variables_in terms.entries) (kinds_in terms.entries) name) (kind_set terms.signatures (variables_in terms.entries) (kinds_in terms.entries) name op e) fit.0 in
+      let both = joined_kind Eq (kind_of_name terms name) (kind_set terms.signatures (variables_in terms.entries) (kinds_in terms.entries) name op e) fit.0 in
       let x = set_expr name op e in
-      let there : kind_under x ≡ Some both.0 = sym (set_kind-is terms p site name op e) ∙ both.1.1 in
+      let there : own_kind terms x ≡ Some both.0 = sym (set_kind-is terms p site name op e) ∙ both.1.1 in
       let is_code = set_code-is terms p site head.line name op e in
       let laid' = subst (λ c. Stands site.code pc (c ++ store_code terms head.line name)) is_code laid in
-      let stays : (store : Pairs) (v : Value) → Good store → kind_under x ≡ Some (kind_of v) → Good (put store name v) =
+      let stays : (store : Pairs) (v : Value) → Good store → own_kind terms x ≡ Some (kind_of v) → Good (put store name v) =
       λ store v good1 is_kind. outs.puts store name v good1 (outs.keeps store good1 name (kind_of v) (both.1.0 ∙ sym there ∙ is_kind)) in
       after_using terms p site n (exits terms p site n Good outs _ stack way) outs.halts _ head.line (set_value (scope_in site) name op e st.store st.tape) st (λ v st1. done Through (with_value name v st1))
       (subst (λ ev. Follows p n (at pc stack st) (given ev (λ v t. way.next (with_value name v (with_tape t st))) (λ h t. stands (halts_at site.node head.line h) (with_tape t st)))) (sym (set_value-is terms p site st.store name op e st.tape))
@@ -169,7 +166,7 @@ module _ (terms : Terms) (p : Program) (site : Site terms p) (n : ℕ) (Good : P
       let px : ℕ = pc + length cs in
       let pe : ℕ = px + 1 + 1 + 1 + 1 + 1 in
       after_using terms p site n (exits terms p site n Good outs _ stack way) outs.halts _ line (eval (scope_in site) st.store e st.tape) st (λ v st1. done (Jumps line (title_in v)) st1)
-      (expr_follows terms p site n line st (outs.keeps st.store good) e (in_set_kinded (only kind.Str) (kind_under e) fit.0) pc stack [] st.tape (λ v t. outs.exits.jumps line (title_in v) (with_tape t st)) (front_stands cs tail laid) (λ to t gives.
+      (expr_follows terms p site n line st (outs.keeps st.store good) e (in_set_kinded (only kind.Str) (own_kind terms e) fit.0) pc stack [] st.tape (λ v t. outs.exits.jumps line (title_in v) (with_tape t st)) (front_stands cs tail laid) (λ to t gives.
       let text = titles (scope_in site) (variables_in terms.entries) (kinds_in terms.entries) st.store e st.tape t to (outs.keeps st.store good) fit.0 gives in
       subst (λ x. Follows p n (at px (Val x ∷ stack) (with_tape t st)) (outs.exits.jumps line (title_in x) (with_tape t st))) (sym text.1)
       (subst (Follows p n (at px (Val (Str text.0) ∷ stack) (with_tape t st))) (sym (outs.jumps line text.0 (with_tape t st)))

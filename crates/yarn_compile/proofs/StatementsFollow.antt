@@ -6,7 +6,6 @@ use Rattle.yarn_blocks.specs.Tree as T
 use Rattle.yarn_blocks.specs.Tree.{Leaf, Group, Choice, Nil, Cons, NoOptions, AndOption, NoClauses, AndClause, NoElse, ElseOf, Offered}
 use Rattle.yarn_types.specs.KindSets.{only}
 use Rattle.yarn_types.specs.Typings.{kinds_in}
-use Rattle.yarn_types.specs.Fits as fits
 use Rattle.yarn_code.specs.declared.event.Event.TheVariants as event
 use Rattle.yarn_code.specs.Moments.{State, with_tape}
 use Rattle.yarn_value.specs.Pairs.{Pairs}
@@ -24,6 +23,7 @@ use Rattle.yarn_code.specs.MachineState.{StackEntry, Value as Val, Destination, 
 use Rattle.yarn_code.specs.Machine.{label_at, Quiet, next}
 use Rattle.yarn_kinds.proofs.Asked.{conditions}
 use Rattle.yarn_compile.proofs.Follows.{Stands, first_stands, rest_stands, front_stands, back_stands, stands_as, running, Site, here_of, scope_in, Follows, quiet, shows_same, at_place, step}
+use Rattle.yarn_compile.proofs.Kinded.{own_kind}
 use Rattle.yarn_compile.proofs.Fitted.{in_set_kinded}
 use Rattle.yarn_compile.proofs.ExpressionsCompute.{expr_follows}
 use Rattle.yarn_compile.proofs.SizesOfCode.{length-heads, length-ask, length-stmt, length-stmts, length-bodies, length-clauses}
@@ -184,7 +184,7 @@ module _ (terms : Terms) (p : Program) (site : Site terms p) (n : ℕ) (Good : P
         let e4 : pe + 1 + 1 ≡ pb = omega arith in
         let len : pr + clauses_size terms title cs ≡ pc + (ask_size terms q + all_size body + 2 + clauses_size terms title cs) = omega arith in
         after_using terms p site n (out end stack way) outs.halts _ line (eval (scope_in site) st.store q.condition st.tape) st (λ v st1. if is_true v then does_all (scope_in site) body st1 else does_clauses (scope_in site) cs st1 otherwise)
-        (expr_follows terms p site n line st (outs.keeps st.store good) q.condition (in_set_kinded (only kind.Truth) (fits.kind_of terms.signatures (variables_in terms.entries) (kinds_in terms.entries) q.condition) fit.0) pc stack [] st.tape
+        (expr_follows terms p site n line st (outs.keeps st.store good) q.condition (in_set_kinded (only kind.Truth) (own_kind terms q.condition) fit.0) pc stack [] st.tape
         (λ v t. after (if is_true v then does_all (scope_in site) body (with_tape t st) else does_clauses (scope_in site) cs (with_tape t st) otherwise) (out end stack way)) (front_stands ce _ ha) (λ v t gives.
         let st1 = with_tape t st in
         let truth = conditions (scope_in site) (variables_in terms.entries) (kinds_in terms.entries) st.store q.condition st.tape t v (outs.keeps st.store good) fit.0 gives in

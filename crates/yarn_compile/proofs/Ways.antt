@@ -3,7 +3,6 @@ use Rattle.std.proofs.Common.{◌≡◌, ℕ, ◌+◌, Bool, true, false, if◌t
 use Rattle.yarn_value.specs.declared.value.Value.{Value}
 use Rattle.yarn_value.specs.declared.value.Kind.TheVariants as kind
 use Rattle.yarn_value.specs.Values.{kind_of}
-use Rattle.yarn_types.specs.Typings.{kinds_in}
 use Rattle.yarn_value.specs.Pairs.{put, Pairs}
 use Rattle.yarn_code.specs.Moments.{State, Moment, Behaviour, finishes, emit, emit_all, stands, with_tape}
 use Rattle.yarn_blocks.specs.Tree as T
@@ -13,12 +12,12 @@ use Rattle.yarn_meaning.specs.Does.{Exit, Through, Jumps, Stops, Halted, Waiting
 use Rattle.yarn_meaning.specs.First.{Exits, left, after, leaves, halts_at}
 use Rattle.yarn_code.specs.declared.program.Program.{Program}
 use Rattle.yarn_compile.specs.Code.{Terms, size_all, stmts_code}
-use Rattle.yarn_kinds.specs.Typed.{variables_in, Keeps}
 use Rattle.yarn_code.specs.MachineState.{Stack, To, Ends, Rests, MachineState, machine}
 use Rattle.yarn_code.specs.Machine.{Quiet, next}
 use Rattle.yarn_code.specs.Parts.{line_at}
 use Rattle.yarn_code.specs.Kinds.{HasKind}
 use Rattle.yarn_compile.proofs.Follows.{Stands, running, Site, here_of, scope_in, coded_node, Follows, quiet}
+use Rattle.yarn_compile.proofs.Kinded.{KeepsOwn}
 use Rattle.yarn_compile.proofs.Sound.{FitsAll}
 
 emit_all-append : (ms ns : List Moment) (b : Behaviour) → emit_all (ms ++ ns) b ≡ emit_all ms (emit_all ns b)
@@ -72,7 +71,7 @@ pub record Outs (terms : Terms) (p : Program) (site : Site terms p) (n : ℕ) (G
   pub stops : (line : ℕ) (st : State) → exits.stops line st ≡ leaves site.node line st finishes
   pub halts : (line : ℕ) (h : Halt) (st : State) → exits.halts line h st ≡ stands (halts_at site.node line h) st
   -- what holds of a good store
-  pub keeps : (store : Pairs) → Good store → Keeps (variables_in terms.entries) (kinds_in terms.entries) store
+  pub keeps : (store : Pairs) → Good store → KeepsOwn terms store
   pub counts : (store : Pairs) → Good store → HasKind store (count_name site.node.node.title) kind.Number
   pub puts : (store : Pairs) (name : List ℕ) (v : Value) → Good store → HasKind store name (kind_of v) → Good (put store name v)
 
