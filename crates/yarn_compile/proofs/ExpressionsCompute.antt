@@ -55,10 +55,12 @@ same_reply : (functions known : List Signature) (name : List ℕ) (vs : List Val
     signature_named functions name ≡ signature_named known name → replied functions name vs t ≡ replied known name vs t
 same_reply functions known name vs [] e = refl
 same_reply functions known name vs (r ∷ t) e =
-    ap (λ s. if same_text r.name name && same_values r.args vs then (if is_reply_of s r.value then Gives r.value t else Halts (BadReply name r.value) t) else Halts (Asks name vs) (r ∷ t)) e
+    ap (λ s. if same_text r.name name && same_values r.args vs then
+    (if is_reply_of s r.value then Gives r.value t else Halts (BadReply name r.value) t) else Halts (Asks name vs) (r ∷ t)) e
 
 -- two steps of an evaluation in which nothing is made up
-exact_then : {A B : Type 0} (s : Option (Evaluated A)) (ev : Evaluated A) (g : A → Tape → Option (Evaluated B)) (f : A → Tape → Evaluated B) (v : A) (t : Tape) →
+exact_then : {A B : Type 0} (s : Option (Evaluated A)) (ev : Evaluated A) (g : A → Tape → Option (Evaluated B)) (f : A → Tape → Evaluated B) (v : A)
+    (t : Tape) →
     s ≡ Some ev → strict_then s g ≡ Some (and_then ev f) → ev ≡ Gives v t → g v t ≡ Some (f v t)
 exact_then s ev g f v t is whole e = sym (ap (λ x. strict_then x g) (is ∙ ap (λ x. Some x) e)) ∙ whole ∙ ap (λ x. Some (and_then x f)) e
 
@@ -78,7 +80,8 @@ module _ (terms : Terms) (p : Program) (site : Site terms p) (store : Pairs) (ke
     where
       of_kind : (o : Option Kind) → own_kind terms e ≡ o → is_some o ≡ true → o ≡ Some (kind_of v)
       of_kind None h there' = cc
-      of_kind (Some k) h there' = ap Some (sym (kinds (scope_in site) (variables_in terms.entries) (kinds_in terms.entries) store e k t left v keeps h is))
+      of_kind (Some k) h there' =
+          ap Some (sym (kinds (scope_in site) (variables_in terms.entries) (kinds_in terms.entries) store e k t left v keeps h is))
 
   -- and nothing is made up
   exact_in : (e : Expr) (t : Tape) → is_some (own_kind terms e) ≡ true →
@@ -91,7 +94,8 @@ module _ (terms : Terms) (p : Program) (site : Site terms p) (store : Pairs) (ke
       of_kind (Some k) h there' = makes_nothing_up (scope_in site) (variables_in terms.entries) (kinds_in terms.entries) store e k t keeps h
 
   -- the same of one layer
-  exact_as : (e : Expr) (s : Tape → Option (Evaluated Value)) (ev : Tape → Evaluated Value) → strict (scope_in site) store e ≡ s → eval (scope_in site) store e ≡ ev →
+  exact_as : (e : Expr) (s : Tape → Option (Evaluated Value)) (ev : Tape → Evaluated Value) → strict (scope_in site) store e ≡ s →
+      eval (scope_in site) store e ≡ ev →
       is_some (own_kind terms e) ≡ true → (t : Tape) → s t ≡ Some (ev t)
   exact_as e s ev es ee there t = sym (ap (λ f. f t) es) ∙ exact_in e t there ∙ ap (λ f. Some (f t)) ee
 
@@ -102,7 +106,8 @@ module _ (terms : Terms) (p : Program) (site : Site terms p) (store : Pairs) (ke
       exact_on (strict (scope_in site) store e t) (eval (scope_in site) store e t)
       (λ v t1. strict_then (strict_each (map (strict (scope_in site) store) es) t1) (λ vs t2. Some (Gives (v ∷ vs) t2)))
       (λ v t1. and_then (eval_all (scope_in site) store es t1) (λ vs t2. Gives (v ∷ vs) t2)) (exact_in e t h.0)
-      (λ v t1. exact_on (strict_each (map (strict (scope_in site) store) es) t1) (eval_all (scope_in site) store es t1) (λ vs t2. Some (Gives (v ∷ vs) t2)) (λ vs t2. Gives (v ∷ vs) t2)
+      (λ v t1. exact_on (strict_each (map (strict (scope_in site) store) es) t1) (eval_all (scope_in site) store es t1)
+      (λ vs t2. Some (Gives (v ∷ vs) t2)) (λ vs t2. Gives (v ∷ vs) t2)
       (exact_each es h.1 t1) (λ vs t2. refl))
 
 -- builtins know at a site what the machine knows there
@@ -137,35 +142,44 @@ module _ (terms : Terms) (p : Program) (site : Site terms p) (n : ℕ) (line : �
   abbrev pub Computes : List Coded → (Tape → Evaluated Value) → Type 0
   Computes cs ev =
       (pc : ℕ) (stack : Stack) (pending : List Offer) (t : Tape) (go : Value → Tape → Behaviour) → Stands site.code pc cs →
-      ((v : Value) (t1 : Tape) → ev t ≡ Gives v t1 → Follows p n (running (here_of site) (pc + length cs) (Val v ∷ stack) pending (with_tape t1 st)) (go v t1)) →
-      Follows p n (running (here_of site) pc stack pending (with_tape t st)) (given (ev t) go (λ h t1. stands (halts_at site.node line h) (with_tape t1 st)))
+      ((v : Value) (t1 : Tape) → ev t ≡ Gives v t1 →
+      Follows p n (running (here_of site) (pc + length cs) (Val v ∷ stack) pending (with_tape t1 st)) (go v t1)) →
+      Follows p n (running (here_of site) pc stack pending (with_tape t st))
+      (given (ev t) go (λ h t1. stands (halts_at site.node line h) (with_tape t1 st)))
 
   -- what a builtin gave is pushed, or its fault ends the run
-  row_follows : (o : Option (Result Value RunFault)) (ev : Evaluated Value) (pc : ℕ) (below stack : Stack) (pending : List Offer) (t : Tape) (go : Value → Tape → Behaviour) →
+  row_follows : (o : Option (Result Value RunFault)) (ev : Evaluated Value) (pc : ℕ) (below stack : Stack) (pending : List Offer) (t : Tape)
+      (go : Value → Tape → Behaviour) →
       strict_outcome o t ≡ Some ev →
-      next p (at pc below pending t) ≡ when_some o Stuck (λ result. pushes p (coded_node site.node site.code) line result stack (at pc below pending t)) →
+      next p (at pc below pending t) ≡ when_some o Stuck
+      (λ result. pushes p (coded_node site.node site.code) line result stack (at pc below pending t)) →
       ((v : Value) (t1 : Tape) → ev ≡ Gives v t1 → Follows p n (at (pc + 1) (Val v ∷ stack) pending t1) (go v t1)) →
       Follows p n (at pc below pending t) (given ev go halt)
   row_follows None ev pc below stack pending t go h e f = absurd cc
   row_follows (Some (Ok v)) ev pc below stack pending t go h e f =
       let is : Gives v t ≡ ev = cc in
-      subst (λ x. Follows p n (at pc below pending t) (given x go halt)) is (quiet p n (at pc below pending t) (at (pc + 1) (Val v ∷ stack) pending t) (go v t) e (f v t (sym is)))
+      subst (λ x. Follows p n (at pc below pending t) (given x go halt)) is
+      (quiet p n (at pc below pending t) (at (pc + 1) (Val v ∷ stack) pending t) (go v t) e (f v t (sym is)))
   row_follows (Some (Err fault)) ev pc below stack pending t go h e f =
       let is : Halts (Faults fault) t ≡ ev = cc in
-      subst (λ x. Follows p n (at pc below pending t) (given x go halt)) is (breaks_here terms p site n (at pc below pending t) (at pc below pending t) line fault e)
+      subst (λ x. Follows p n (at pc below pending t) (given x go halt)) is
+      (breaks_here terms p site n (at pc below pending t) (at pc below pending t) line fault e)
 
   -- a host function is asked
   abbrev asks_at : ℕ → List ℕ → List Value → Stack → List Offer → Tape → MachineState
   asks_at pc name vs stack pending t = machine (here_of site) pc stack pending (AsksHost name vs) (with_tape t st)
 
   -- the reply is of the question or not, and of the function's kind or not
-  reply_by : (b c : Bool) (v : Value) (pc : ℕ) (name : List ℕ) (vs : List Value) (stack : Stack) (pending : List Offer) (t left : Tape) (go : Value → Tape → Behaviour) →
+  reply_by : (b c : Bool) (v : Value) (pc : ℕ) (name : List ℕ) (vs : List Value) (stack : Stack) (pending : List Offer) (t left : Tape)
+      (go : Value → Tape → Behaviour) →
       next p (asks_at pc name vs stack pending t)
-      ≡ (if b then (if c then Quiet (at pc (Val v ∷ stack) pending left) else StandsAt (moments.BadReply name v) (asks_at pc name vs stack pending left))
+      ≡ (if b then (if c then Quiet (at pc (Val v ∷ stack) pending left) else StandsAt (moments.BadReply name v)
+      (asks_at pc name vs stack pending left))
       else StandsAt (moments.Asks name vs) (asks_at pc name vs stack pending t)) →
       ((v1 : Value) (t1 : Tape) → (if b then (if c then Gives v left else Halts (BadReply name v) left) else Halts (Asks name vs) t) ≡ Gives v1 t1 →
       Follows p n (at pc (Val v1 ∷ stack) pending t1) (go v1 t1)) →
-      Follows p n (asks_at pc name vs stack pending t) (given (if b then (if c then Gives v left else Halts (BadReply name v) left) else Halts (Asks name vs) t) go halt)
+      Follows p n (asks_at pc name vs stack pending t)
+      (given (if b then (if c then Gives v left else Halts (BadReply name v) left) else Halts (Asks name vs) t) go halt)
   reply_by true true v pc name vs stack pending t left go e f = quiet p n _ (at pc (Val v ∷ stack) pending left) (go v left) e (f v left refl)
   reply_by true false v pc name vs stack pending t left go e f = halts p n _ (asks_at pc name vs stack pending left) (moments.BadReply name v) e
   reply_by false c v pc name vs stack pending t left go e f = halts p n _ (asks_at pc name vs stack pending t) (moments.Asks name vs) e
@@ -175,10 +189,12 @@ module _ (terms : Terms) (p : Program) (site : Site terms p) (n : ℕ) (line : �
       Follows p n (asks_at pc name vs stack pending t) (given (replied p.functions name vs t) go halt)
   reply_follows [] pc name vs stack pending go f = halts p n _ (asks_at pc name vs stack pending []) (moments.Asks name vs) refl
   reply_follows (r ∷ t) pc name vs stack pending go f =
-      reply_by (same_text r.name name && same_values r.args vs) (is_reply_of (signature_named p.functions name) r.value) r.value pc name vs stack pending (r ∷ t) t go refl f
+      reply_by (same_text r.name name && same_values r.args vs)
+      (is_reply_of (signature_named p.functions name) r.value) r.value pc name vs stack pending (r ∷ t) t go refl f
 
   -- a call of a builtin or of a host function
-  pub call_follows : (o : Option Row) (pc count : ℕ) (name : List ℕ) (vs : List Value) (stack : Stack) (pending : List Offer) (t : Tape) (go : Value → Tape → Behaviour) → builtin_named name ≡ o →
+  pub call_follows : (o : Option Row) (pc count : ℕ) (name : List ℕ) (vs : List Value) (stack : Stack) (pending : List Offer) (t : Tape)
+      (go : Value → Tape → Behaviour) → builtin_named name ≡ o →
       slice_get site.code pc ≡ Some (coded line (instr.CallFunc count name)) → length vs ≡ count →
       strict_called (scope_in site) st.store o name vs t ≡ Some (called (scope_in site) st.store o name vs t) →
       ((v : Value) (t1 : Tape) → called (scope_in site) st.store o name vs t ≡ Gives v t1 →
@@ -189,8 +205,10 @@ module _ (terms : Terms) (p : Program) (site : Site terms p) (n : ℕ) (line : �
       let called_now = step terms p site pc (pushed vs stack) pending (with_tape t st) line (instr.CallFunc count name) laid
       ∙ take_pushed vs count stack Stuck (λ vs1 rest. calls p (coded_node site.node site.code) line (builtin_named name) name vs1 rest w) len
       ∙ ap (λ o. calls p (coded_node site.node site.code) line o name vs stack w) e
-      ∙ ap (λ o. when_some o Stuck (λ result. pushes p (coded_node site.node site.code) line result stack w)) (same_builtin terms p site st.store row.op row.result vs) in
-      row_follows (row_result (scope_in site) st.store row.op row.result vs) (called (scope_in site) st.store (Some row) name vs t) pc (pushed vs stack) stack pending t go there called_now f
+      ∙ ap (λ o. when_some o Stuck (λ result. pushes p (coded_node site.node site.code) line result stack w))
+      (same_builtin terms p site st.store row.op row.result vs) in
+      row_follows (row_result (scope_in site) st.store row.op row.result vs) (called (scope_in site) st.store (Some row) name vs t) pc
+      (pushed vs stack) stack pending t go there called_now f
   call_follows None pc count name vs stack pending t go e laid len there f =
       let w : MachineState = at pc (pushed vs stack) pending t in
       let called_now = step terms p site pc (pushed vs stack) pending (with_tape t st) line (instr.CallFunc count name) laid
@@ -204,7 +222,8 @@ module _ (terms : Terms) (p : Program) (site : Site terms p) (n : ℕ) (line : �
   -- an operator
   operator_follows : (op : Op) (pc count : ℕ) (name : List ℕ) (vs : List Value) (stack : Stack) (pending : List Offer) (t : Tape) (go : Value →
       Tape → Behaviour) → builtin_named name ≡ Some (applied name op) →
-      slice_get site.code pc ≡ Some (coded line (instr.CallFunc count name)) → length vs ≡ count → strict_outcome (operation op vs) t ≡ Some (operated op vs t) →
+      slice_get site.code pc ≡ Some (coded line (instr.CallFunc count name)) → length vs ≡ count →
+      strict_outcome (operation op vs) t ≡ Some (operated op vs t) →
       ((v : Value) (t1 : Tape) → operated op vs t ≡ Gives v t1 → Follows p n (at (pc + 1) (Val v ∷ stack) pending t1) (go v t1)) →
       Follows p n (at pc (pushed vs stack) pending t) (given (operated op vs t) go halt)
   operator_follows op pc count name vs stack pending t go e laid len there f =
@@ -220,25 +239,31 @@ module _ (terms : Terms) (p : Program) (site : Site terms p) (n : ℕ) (line : �
       via p n _ (ev t) (λ v t1. operated op (v ∷ []) t1) go halt
       (c pc stack pending t (λ v t1. given (operated op (v ∷ []) t1) go halt) (front_stands cs (i ∷ []) laid) (λ v t1 e1.
       operator_follows op (pc + length cs) 1 name (v ∷ []) stack pending t1 go e last refl (there v t t1 e1) (λ w t2 e2.
-      at_place p n _ _ _ (Val w ∷ stack) pending (with_tape t2 st) (go w t2) (sym len) (f w t2 (chained (ev t) (λ v t1. operated op (v ∷ []) t1) v t1 (Gives w t2) e1 e2)))))
+      at_place p n _ _ _ (Val w ∷ stack) pending (with_tape t2 st) (go w t2) (sym len)
+      (f w t2 (chained (ev t) (λ v t1. operated op (v ∷ []) t1) v t1 (Gives w t2) e1 e2)))))
 
   pub computes_binary : (op : Value → Op) (name : List ℕ) (cl cr : List Coded) (evl evr : Tape → Evaluated Value) →
       ((v : Value) (t t1 : Tape) → evl t ≡ Gives v t1 → builtin_named name ≡ Some (applied name (op v))) →
-      ((v w : Value) (t t1 t2 : Tape) → evl t ≡ Gives v t1 → evr t1 ≡ Gives w t2 → strict_outcome (operation (op v) (v ∷ w ∷ [])) t2 ≡ Some (operated (op v) (v ∷ w ∷ []) t2)) →
+      ((v w : Value) (t t1 t2 : Tape) → evl t ≡ Gives v t1 → evr t1 ≡ Gives w t2 →
+      strict_outcome (operation (op v) (v ∷ w ∷ [])) t2 ≡ Some (operated (op v) (v ∷ w ∷ []) t2)) →
       Computes cl evl → Computes cr evr →
-      Computes (cl ++ (cr ++ coded line (instr.CallFunc 2 name) ∷ [])) (λ t. and_then (evl t) (λ v t1. and_then (evr t1) (λ w t2. operated (op v) (v ∷ w ∷ []) t2)))
+      Computes (cl ++ (cr ++ coded line (instr.CallFunc 2 name) ∷ []))
+      (λ t. and_then (evl t) (λ v t1. and_then (evr t1) (λ w t2. operated (op v) (v ∷ w ∷ []) t2)))
   computes_binary op name cl cr evl evr e there l r pc stack pending t go laid f =
       let i : Coded = coded line (instr.CallFunc 2 name) in
       let hr = back_stands cl (cr ++ i ∷ []) laid in
       let last = first_stands (back_stands cr (i ∷ []) hr) in
-      let len : pc + length cl + length cr + 1 ≡ pc + length (cl ++ (cr ++ i ∷ [])) = omega (arith, length-append cl (cr ++ i ∷ []), length-append cr (i ∷ [])) in
+      let len : pc + length cl + length cr + 1 ≡ pc + length (cl ++ (cr ++ i ∷ [])) =
+      omega (arith, length-append cl (cr ++ i ∷ []), length-append cr (i ∷ [])) in
       via p n _ (evl t) (λ v t1. and_then (evr t1) (λ w t2. operated (op v) (v ∷ w ∷ []) t2)) go halt
       (l pc stack pending t (λ v t1. given (and_then (evr t1) (λ w t2. operated (op v) (v ∷ w ∷ []) t2)) go halt) (front_stands cl _ laid) (λ v t1 e1.
       via p n _ (evr t1) (λ w t2. operated (op v) (v ∷ w ∷ []) t2) go halt
       (r (pc + length cl) (Val v ∷ stack) pending t1 (λ w t2. given (operated (op v) (v ∷ w ∷ []) t2) go halt) (front_stands cr _ hr) (λ w t2 e2.
-      operator_follows (op v) (pc + length cl + length cr) 2 name (v ∷ w ∷ []) stack pending t2 go (e v t t1 e1) last refl (there v w t t1 t2 e1 e2) (λ x t3 e3.
+      operator_follows (op v) (pc + length cl + length cr) 2 name (v ∷ w ∷ []) stack pending t2 go (e v t t1 e1) last refl (there v w t t1 t2 e1 e2)
+      (λ x t3 e3.
       at_place p n _ _ _ (Val x ∷ stack) pending (with_tape t3 st) (go x t3) (sym len)
-      (f x t3 (chained (evl t) (λ v t1. and_then (evr t1) (λ w t2. operated (op v) (v ∷ w ∷ []) t2)) v t1 (Gives x t3) e1 (chained (evr t1) (λ w t2. operated (op v) (v ∷ w ∷ []) t2) w t2 (Gives x t3) e2 e3))))))))
+      (f x t3 (chained (evl t) (λ v t1. and_then (evr t1) (λ w t2. operated (op v) (v ∷ w ∷ []) t2)) v t1 (Gives x t3) e1
+      (chained (evr t1) (λ w t2. operated (op v) (v ∷ w ∷ []) t2) w t2 (Gives x t3) e2 e3))))))))
 
   -- the values of expressions, one after another
   abbrev pub Computed : Expr → Type 0
@@ -262,7 +287,8 @@ module _ (terms : Terms) (p : Program) (site : Site terms p) (n : ℕ) (line : �
       via p n _ (eval_all (scope_in site) st.store es t1) (λ vs t2. Gives (v ∷ vs) t2) go halt
       (exprs_follow_each es c.1 (pc + length ce) (Val v ∷ stack) pending t1 (λ vs t2. go (v ∷ vs) t2) (back_stands ce cs laid) (λ vs t2 e2 count.
       at_place p n _ _ _ (pushed vs (Val v ∷ stack)) pending (with_tape t2 st) (go (v ∷ vs) t2) (sym len)
-      (f (v ∷ vs) t2 (chained (eval (scope_in site) st.store e t) more v t1 (Gives (v ∷ vs) t2) e1 (chained (eval_all (scope_in site) st.store es t1) (λ vs t2. Gives (v ∷ vs) t2) vs t2 (Gives (v ∷ vs) t2) e2 refl)) (ap suc count))))))
+      (f (v ∷ vs) t2 (chained (eval (scope_in site) st.store e t) more v t1 (Gives (v ∷ vs) t2) e1
+      (chained (eval_all (scope_in site) st.store es t1) (λ vs t2. Gives (v ∷ vs) t2) vs t2 (Gives (v ∷ vs) t2) e2 refl)) (ap suc count))))))
 
   code_of_each : (es : List Expr) → code_of_all (map (typed_expr terms line) es) ≡ exprs_code terms line es
   code_of_each [] = refl
@@ -274,8 +300,10 @@ module _ (terms : Terms) (p : Program) (site : Site terms p) (n : ℕ) (line : �
 
   computes_call : (name : List ℕ) (es : List Expr) →
       ((vs : List Value) (t t1 : Tape) → eval_all (scope_in site) st.store es t ≡ Gives vs t1 →
-      strict_called (scope_in site) st.store (builtin_named name) name vs t1 ≡ Some (called (scope_in site) st.store (builtin_named name) name vs t1)) → Each Computed es →
-      Computes (exprs_code terms line es ++ coded line (instr.CallFunc (length es) name) ∷ []) (λ t. and_then (eval_all (scope_in site) st.store es t) (λ vs t1. called (scope_in site) st.store (builtin_named name) name vs t1))
+      strict_called (scope_in site) st.store (builtin_named name) name vs t1 ≡ Some
+      (called (scope_in site) st.store (builtin_named name) name vs t1)) → Each Computed es →
+      Computes (exprs_code terms line es ++ coded line (instr.CallFunc (length es) name) ∷ [])
+      (λ t. and_then (eval_all (scope_in site) st.store es t) (λ vs t1. called (scope_in site) st.store (builtin_named name) name vs t1))
   computes_call name es there c pc stack pending t go laid f =
       let cs = exprs_code terms line es in
       let i : Coded = coded line (instr.CallFunc (length es) name) in
@@ -285,7 +313,8 @@ module _ (terms : Terms) (p : Program) (site : Site terms p) (n : ℕ) (line : �
       via p n _ (eval_all (scope_in site) st.store es t) calls_it go halt
       (exprs_follow_each es c pc stack pending t (λ vs t1. given (calls_it vs t1) go halt) (front_stands cs (i ∷ []) laid) (λ vs t1 e1 count.
       call_follows (builtin_named name) (pc + length cs) (length es) name vs stack pending t1 go refl last count (there vs t t1 e1) (λ v t2 e2.
-      at_place p n _ _ _ (Val v ∷ stack) pending (with_tape t2 st) (go v t2) (sym len) (f v t2 (chained (eval_all (scope_in site) st.store es t) calls_it vs t1 (Gives v t2) e1 e2)))))
+      at_place p n _ _ _ (Val v ∷ stack) pending (with_tape t2 st) (go v t2) (sym len)
+      (f v t2 (chained (eval_all (scope_in site) st.store es t) calls_it vs t1 (Gives v t2) e1 e2)))))
 
   -- ---- all expressions that have a kind
 
@@ -302,13 +331,15 @@ module _ (terms : Terms) (p : Program) (site : Site terms p) (n : ℕ) (line : �
 
   module _ (keeps : KeepsOwn terms st.store) where
     left_row : (op : _) (e : Expr) (v : Value) (t t1 : Tape) → is_some (own_kind terms e) ≡ true → eval (scope_in site) st.store e t ≡ Gives v t1 →
-        builtin_named (binary_name op (typed_expr terms line e).kind) ≡ Some (applied (binary_name op (typed_expr terms line e).kind) (binary_op op v))
+        builtin_named (binary_name op (typed_expr terms line e).kind) ≡ Some
+        (applied (binary_name op (typed_expr terms line e).kind) (binary_op op v))
     left_row op e v t t1 there gives =
         let k = kind_in_code terms line e ∙ value_kind terms p site st.store keeps e t t1 v there gives in
         subst (λ o. builtin_named (binary_name op o) ≡ Some (applied (binary_name op o) (binary_op op v))) (sym k) (operators_have_rows.binary op v)
 
     -- a variable that is there
-    variable_follows : (x : List ℕ) (o : Option Value) → value_under st.store x ≡ o → ((t : Tape) → strict_value o t ≡ Some (Gives (stored st.store x) t)) →
+    variable_follows : (x : List ℕ) (o : Option Value) → value_under st.store x ≡ o →
+        ((t : Tape) → strict_value o t ≡ Some (Gives (stored st.store x) t)) →
         Computes (coded line (instr.PushVariable x) ∷ []) (λ t. Gives (stored st.store x) t)
     variable_follows x None e there pc stack pending t go laid f = let no = there t in absurd cc
     variable_follows x (Some v) e there pc stack pending t go laid f =
@@ -325,14 +356,20 @@ module _ (terms : Terms) (p : Program) (site : Site terms p) (n : ℕ) (line : �
 
     at_layer : (y : Expr-F ((e : Expr) × P e)) → P (roll-Expr (map-Expr ((e : Expr) × P e) Expr (λ z. z.0) y))
     at_layer (Expr-F.Number x) h =
-        computed_as _ _ _ (fold-roll-Expr _ (code_step terms line) (Expr-F.Number x)) (fold-roll-Expr _ (eval_step (scope_in site) st.store) (Expr-F.Number x))
-        (λ pc stack pending t go laid f. quiet p n _ (at (pc + 1) (Val (Number x) ∷ stack) pending t) (go (Number x) t) (step terms p site pc stack pending (with_tape t st) line (instr.PushFloat x) (first_stands laid)) (f (Number x) t refl))
+        computed_as _ _ _ (fold-roll-Expr _ (code_step terms line) (Expr-F.Number x))
+        (fold-roll-Expr _ (eval_step (scope_in site) st.store) (Expr-F.Number x))
+        (λ pc stack pending t go laid f. quiet p n _ (at (pc + 1) (Val (Number x) ∷ stack) pending t) (go (Number x) t)
+        (step terms p site pc stack pending (with_tape t st) line (instr.PushFloat x) (first_stands laid)) (f (Number x) t refl))
     at_layer (Expr-F.Str x) h =
-        computed_as _ _ _ (fold-roll-Expr _ (code_step terms line) (Expr-F.Str x)) (fold-roll-Expr _ (eval_step (scope_in site) st.store) (Expr-F.Str x))
-        (λ pc stack pending t go laid f. quiet p n _ (at (pc + 1) (Val (Str x) ∷ stack) pending t) (go (Str x) t) (step terms p site pc stack pending (with_tape t st) line (instr.PushString x) (first_stands laid)) (f (Str x) t refl))
+        computed_as _ _ _ (fold-roll-Expr _ (code_step terms line) (Expr-F.Str x))
+        (fold-roll-Expr _ (eval_step (scope_in site) st.store) (Expr-F.Str x))
+        (λ pc stack pending t go laid f. quiet p n _ (at (pc + 1) (Val (Str x) ∷ stack) pending t) (go (Str x) t)
+        (step terms p site pc stack pending (with_tape t st) line (instr.PushString x) (first_stands laid)) (f (Str x) t refl))
     at_layer (Expr-F.Truth x) h =
-        computed_as _ _ _ (fold-roll-Expr _ (code_step terms line) (Expr-F.Truth x)) (fold-roll-Expr _ (eval_step (scope_in site) st.store) (Expr-F.Truth x))
-        (λ pc stack pending t go laid f. quiet p n _ (at (pc + 1) (Val (Truth x) ∷ stack) pending t) (go (Truth x) t) (step terms p site pc stack pending (with_tape t st) line (instr.PushBool x) (first_stands laid)) (f (Truth x) t refl))
+        computed_as _ _ _ (fold-roll-Expr _ (code_step terms line) (Expr-F.Truth x))
+        (fold-roll-Expr _ (eval_step (scope_in site) st.store) (Expr-F.Truth x))
+        (λ pc stack pending t go laid f. quiet p n _ (at (pc + 1) (Val (Truth x) ∷ stack) pending t) (go (Truth x) t)
+        (step terms p site pc stack pending (with_tape t st) line (instr.PushBool x) (first_stands laid)) (f (Truth x) t refl))
     at_layer (Expr-F.Variable x) h =
         let es = fold-roll-Expr _ (strict_step (scope_in site) st.store) (Expr-F.Variable x) in
         let ee = fold-roll-Expr _ (eval_step (scope_in site) st.store) (Expr-F.Variable x) in
@@ -341,7 +378,8 @@ module _ (terms : Terms) (p : Program) (site : Site terms p) (n : ℕ) (line : �
         computed_as _ _ _ (fold-roll-Expr _ (code_step terms line) (Expr-F.Variable x)) ee (variable_follows x (value_under st.store x) refl exact)
     at_layer (Expr-F.Group e) h =
         let there = subst (λ k. is_some k ≡ true) (fold-roll-Expr _ (kind_of_node terms) (Expr-F.Group e.0)) h in
-        computed_as _ _ _ (fold-roll-Expr _ (code_step terms line) (Expr-F.Group e.0)) (fold-roll-Expr _ (eval_step (scope_in site) st.store) (Expr-F.Group e.0)) (e.1 there)
+        computed_as _ _ _ (fold-roll-Expr _ (code_step terms line) (Expr-F.Group e.0))
+        (fold-roll-Expr _ (eval_step (scope_in site) st.store) (Expr-F.Group e.0)) (e.1 there)
     at_layer (Expr-F.Unary op e) h =
         let there = subst (λ k. is_some k ≡ true) (fold-roll-Expr _ (kind_of_node terms) (Expr-F.Unary op e.0)) h in
         let inner = in_kinded (unary_kind op) (unary_kind op) (own_kind terms e.0) there in
@@ -350,7 +388,8 @@ module _ (terms : Terms) (p : Program) (site : Site terms p) (n : ℕ) (line : �
         let exact = exact_as terms p site st.store keeps (roll-Expr (Expr-F.Unary op e.0)) _ _ es ee h in
         computed_as _ _ _ (fold-roll-Expr _ (code_step terms line) (Expr-F.Unary op e.0)) ee
         (computes_unary (unary_op op) (unary_name op) (expr_code terms line e.0) (eval (scope_in site) st.store e.0) (operators_have_rows.unary op)
-        (λ v t t1 e1. exact_then _ _ (λ v1 t2. strict_outcome (operation (unary_op op) (v1 ∷ [])) t2) (λ v1 t2. operated (unary_op op) (v1 ∷ []) t2) v t1 (exact_in terms p site st.store keeps e.0 t inner) (exact t) e1)
+        (λ v t t1 e1. exact_then _ _ (λ v1 t2. strict_outcome (operation (unary_op op) (v1 ∷ [])) t2)
+        (λ v1 t2. operated (unary_op op) (v1 ∷ []) t2) v t1 (exact_in terms p site st.store keeps e.0 t inner) (exact t) e1)
         (e.1 inner))
     at_layer (Expr-F.Binary op l r) h =
         let there = subst (λ k. is_some k ≡ true) (fold-roll-Expr _ (kind_of_node terms) (Expr-F.Binary op l.0 r.0)) h in
@@ -362,12 +401,15 @@ module _ (terms : Terms) (p : Program) (site : Site terms p) (n : ℕ) (line : �
         let strict_r : Tape → Option (Evaluated Value) = strict (scope_in site) st.store r.0 in
         let eval_r : Tape → Evaluated Value = eval (scope_in site) st.store r.0 in
         computed_as _ _ _ (fold-roll-Expr _ (code_step terms line) (Expr-F.Binary op l.0 r.0)) ee
-        (computes_binary (binary_op op) (binary_name op (typed_expr terms line l.0).kind) (expr_code terms line l.0) (expr_code terms line r.0) (eval (scope_in site) st.store l.0) eval_r
+        (computes_binary (binary_op op) (binary_name op (typed_expr terms line l.0).kind) (expr_code terms line l.0) (expr_code terms line r.0)
+        (eval (scope_in site) st.store l.0) eval_r
         (λ v t t1 gives. left_row op l.0 v t t1 left gives)
         (λ v w t t1 t2 e1 e2.
-        let on_left = exact_then _ _ (λ v1 t3. strict_then (strict_r t3) (λ w1 t4. strict_outcome (operation (binary_op op v1) (v1 ∷ w1 ∷ [])) t4)) (λ v1 t3. and_then (eval_r t3) (λ w1 t4. operated (binary_op op v1) (v1 ∷ w1 ∷ []) t4))
+        let on_left = exact_then _ _ (λ v1 t3. strict_then (strict_r t3) (λ w1 t4. strict_outcome (operation (binary_op op v1) (v1 ∷ w1 ∷ [])) t4))
+        (λ v1 t3. and_then (eval_r t3) (λ w1 t4. operated (binary_op op v1) (v1 ∷ w1 ∷ []) t4))
         v t1 (exact_in terms p site st.store keeps l.0 t left) (exact t) e1 in
-        exact_then _ _ (λ w1 t4. strict_outcome (operation (binary_op op v) (v ∷ w1 ∷ [])) t4) (λ w1 t4. operated (binary_op op v) (v ∷ w1 ∷ []) t4) w t2 (exact_in terms p site st.store keeps r.0 t1 right) on_left e2)
+        exact_then _ _ (λ w1 t4. strict_outcome (operation (binary_op op v) (v ∷ w1 ∷ [])) t4)
+        (λ w1 t4. operated (binary_op op v) (v ∷ w1 ∷ []) t4) w t2 (exact_in terms p site st.store keeps r.0 t1 right) on_left e2)
         (l.1 left) (r.1 right))
     at_layer (Expr-F.Call name ys) h =
         let es : List Expr = map (λ z. z.0) ys in
@@ -375,18 +417,24 @@ module _ (terms : Terms) (p : Program) (site : Site terms p) (n : ℕ) (line : �
         let all = args_kinded (builtin_named name) (signature_named terms.signatures name) (map (own_kind terms) es) there in
         let parts = each_computed ys all in
         let ec = fold-roll-Expr TypedCode (code_step terms line) (Expr-F.Call name es) in
-        let whole : (typed_expr terms line (roll-Expr (Expr-F.Call name es))).code ≡ exprs_code terms line es ++ coded line (instr.CallFunc (length es) name) ∷ [] =
+        let whole : (typed_expr terms line (roll-Expr (Expr-F.Call name es))).code ≡ exprs_code terms line es ++ coded line
+        (instr.CallFunc (length es) name) ∷ [] =
         ap (λ c. c.code) ec
         ∙ (λ i. code_of_each es i ++ coded line (instr.CallFunc (length-map es (typed_expr terms line) i) name) ∷ []) in
-        let strict_calls : List Value → Tape → Option (Evaluated Value) = λ vs t1. strict_called (scope_in site) st.store (builtin_named name) name vs t1 in
+        let strict_calls : List Value → Tape → Option (Evaluated Value) =
+        λ vs t1. strict_called (scope_in site) st.store (builtin_named name) name vs t1 in
         let calls_it : List Value → Tape → Evaluated Value = λ vs t1. called (scope_in site) st.store (builtin_named name) name vs t1 in
-        let ee : eval (scope_in site) st.store (roll-Expr (Expr-F.Call name es)) ≡ (λ t. and_then (eval_all (scope_in site) st.store es t) (λ vs t1. called (scope_in site) st.store (builtin_named name) name vs t1)) =
+        let ee : eval (scope_in site) st.store (roll-Expr (Expr-F.Call name es)) ≡
+        (λ t. and_then (eval_all (scope_in site) st.store es t) (λ vs t1. called (scope_in site) st.store (builtin_named name) name vs t1)) =
         fold-roll-Expr (Tape → Evaluated Value) (eval_step (scope_in site) st.store) (Expr-F.Call name es)
         ∙ (λ i t. and_then (each_of es t i) (λ vs t1. called (scope_in site) st.store (builtin_named name) name vs t1)) in
-        let exact = exact_as terms p site st.store keeps (roll-Expr (Expr-F.Call name es)) _ _ (fold-roll-Expr (Tape → Option (Evaluated Value)) (strict_step (scope_in site) st.store) (Expr-F.Call name es)) ee h in
+        let exact = exact_as terms p site st.store keeps (roll-Expr (Expr-F.Call name es)) _ _
+        (fold-roll-Expr (Tape → Option (Evaluated Value)) (strict_step (scope_in site) st.store) (Expr-F.Call name es)) ee h in
         subst (λ c. Computes c (eval (scope_in site) st.store (roll-Expr (Expr-F.Call name es)))) (sym whole)
         (subst (λ ev. Computes (exprs_code terms line es ++ coded line (instr.CallFunc (length es) name) ∷ []) ev) (sym ee)
-        (computes_call name es (λ vs t t1 e1. exact_then _ _ strict_calls calls_it vs t1 (exact_each terms p site st.store keeps es (each_there es all) t) (exact t) e1) parts))
+        (computes_call name es
+        (λ vs t t1 e1. exact_then _ _ strict_calls calls_it vs t1 (exact_each terms p site st.store keeps es (each_there es all) t)
+        (exact t) e1) parts))
 
     pub expr_follows : (e : Expr) → is_some (own_kind terms e) ≡ true → Computed e
     expr_follows = ind-Expr P (λ x y is'. subst (λ z. P (roll-Expr z)) is' (at_layer y))

@@ -126,7 +126,8 @@ module _ (p : Program) where
   pub record Follows (n : ℕ) (w : MachineState) (b : Behaviour) : Type 0 where
     pub by : (k : ℕ) → k < n → ComesTo w k (b k)
 
-  one_step : (w : MachineState) (k m : ℕ) (x : Stepped) (r : Course) (o : Outcome) → next p w ≡ x → follow (run p m) x k ≡ Some r → outcome_of r ≡ o → ComesTo w k o
+  one_step : (w : MachineState) (k m : ℕ) (x : Stepped) (r : Course) (o : Outcome) → next p w ≡ x → follow (run p m) x k ≡ Some r → outcome_of r ≡ o →
+      ComesTo w k o
   one_step w k m x r o e h same = record {
     came = record r { count = ticks w.doing + r.count };
     reached = record { steps = suc m; runs = ap (λ y. with_count (ticks w.doing) (follow (run p m) y k)) e ∙ ap (with_count (ticks w.doing)) h };
@@ -141,7 +142,8 @@ module _ (p : Program) where
   shows_at n w w' e b h f zero lt = one_step w 0 0 (Shows e w') _ _ h refl refl
   shows_at n w w' e b h f (suc k) lt =
       let r = f.by k (omega arith) in
-      one_step w (suc k) r.reached.steps (Shows e w') _ _ h (ap (with_first (moment e w'.state)) r.reached.runs) (ap (with_moment (moment e w'.state)) r.is)
+      one_step w (suc k) r.reached.steps (Shows e w') _ _ h (ap (with_first (moment e w'.state)) r.reached.runs)
+      (ap (with_moment (moment e w'.state)) r.is)
 
   pub shows : (n : ℕ) (w w' : MachineState) (e : Event) (b : Behaviour) → next p w ≡ Shows e w' → Follows n w' b →
       Follows (suc n) w (emit (moment e w'.state) b)
@@ -165,7 +167,8 @@ module _ (p : Program) where
       Follows n (running here pc stack pending st) b → Follows n (running here pc' stack pending st) b
   at_place n here pc pc' stack pending st b e f = subst (λ x. Follows n (running here x stack pending st) b) e f
 
-  pub via : {A B : Type 0} (n : ℕ) (w : MachineState) (ev : Evaluated A) (f : A → Tape → Evaluated B) (go : B → Tape → Behaviour) (halt : Halt → Tape →
+  pub via : {A B : Type 0} (n : ℕ) (w : MachineState) (ev : Evaluated A) (f : A → Tape → Evaluated B) (go : B → Tape → Behaviour)
+      (halt : Halt → Tape →
       Behaviour) → Follows n w (given ev (λ v t. given (f v t) go halt) halt) → Follows n w (given (and_then ev f) go halt)
   via n w (Gives v t) f go halt h = h
   via n w (Halts x t) f go halt h = h
@@ -191,5 +194,6 @@ module _ (terms : Terms) (p : Program) (site : Site terms p) where
       ∙ ap (λ o. when_some o Stuck (λ x. act p (coded_node site.node site.code) x.line x.instr w)) h
 
   -- the line of the instruction before a place
-  pub line_before : (pc line : ℕ) (i : Instr) → slice_get site.code pc ≡ Some (coded line i) → line_at (coded_node site.node site.code) (pc + 1 - 1) ≡ line
+  pub line_before : (pc line : ℕ) (i : Instr) → slice_get site.code pc ≡ Some (coded line i) →
+      line_at (coded_node site.node site.code) (pc + 1 - 1) ≡ line
   line_before pc line i h = let e : pc + 1 - 1 ≡ pc = omega arith in ap (λ x. line_of (slice_get site.code x)) e ∙ ap line_of h

@@ -28,10 +28,12 @@ one_kind store name other a b ha hb e =
     cc
 
 module _ (entries : List TypedName) (titles : List (List ℕ)) where
-  pub puts : (store : Pairs) (name : List ℕ) (v : Value) → IsSound entries titles store → HasKind store name (kind_of v) → IsSound entries titles (put store name v)
+  pub puts : (store : Pairs) (name : List ℕ) (v : Value) → IsSound entries titles store → HasKind store name (kind_of v) →
+      IsSound entries titles (put store name v)
   puts store name v sound k = record {
     keeps = λ other j e. put_kind name v store other j (one_kind store name other (kind_of v) j k (sound.keeps other j e)) (sound.keeps other j e);
-    counts = λ i d inside. put_kind name v store (count_name _) kind.Number (one_kind store name (count_name _) (kind_of v) kind.Number k (sound.counts i d inside)) (sound.counts i d inside);
+    counts = λ i d inside. put_kind name v store (count_name _) kind.Number
+        (one_kind store name (count_name _) (kind_of v) kind.Number k (sound.counts i d inside)) (sound.counts i d inside);
   }
 
 -- ---- a node that is found
@@ -56,17 +58,20 @@ counted_at : (store : Pairs) (file : ℕ) (ns : List NodeTree) → Each (CountNa
 counted_at store file [] h = tt
 counted_at store file (n ∷ ns) h = (h.0, counted_at store file ns h.1)
 
-counted_from : (store : Pairs) (file : ℕ) (files : List FileTree) → Each (CountNamed store) (titles_of files) → Each (Counted store) (nodes_from file files)
+counted_from : (store : Pairs) (file : ℕ) (files : List FileTree) → Each (CountNamed store) (titles_of files) →
+    Each (Counted store) (nodes_from file files)
 counted_from store file [] h = tt
 counted_from store file (f ∷ files) h =
     each_append (Counted store) (nodes_at file f.nodes) (nodes_from (suc file) files)
     (counted_at store file f.nodes (each_front (CountNamed store) (titles_within f.nodes) (titles_of files) h))
     (counted_from store (suc file) files (each_back (CountNamed store) (titles_within f.nodes) (titles_of files) h))
 
-pub counts_node : (entries : List TypedName) (files : List FileTree) (store : Pairs) → IsSound entries (titles_of files) store → (title : List ℕ) (node : Placed) →
+pub counts_node : (entries : List TypedName) (files : List FileTree) (store : Pairs) → IsSound entries (titles_of files) store →
+    (title : List ℕ) (node : Placed) →
     find title files ≡ Some node → HasKind store (count_name node.node.title) kind.Number
 counts_node entries files store sound title node e =
-    each_titled (Counted store) title (nodes_from 0 files) node (counted_from store 0 files (from_all (CountNamed store) (titles_of files) sound.counts)) e
+    each_titled (Counted store) title (nodes_from 0 files) node
+    (counted_from store 0 files (from_all (CountNamed store) (titles_of files) sound.counts)) e
 
 -- ---- files that fit
 
@@ -91,14 +96,17 @@ module _ (terms : Terms) where
   placed_from : (file : ℕ) (files : List FileTree) → Each (λ (f : FileTree). All NodeFits f.nodes) files → Each PlacedNodeFits (nodes_from file files)
   placed_from file [] h = tt
   placed_from file (f ∷ files) h =
-      each_append PlacedNodeFits (nodes_at file f.nodes) (nodes_from (suc file) files) (placed_at file f.nodes (from_all NodeFits f.nodes h.0)) (placed_from (suc file) files h.1)
+      each_append PlacedNodeFits (nodes_at file f.nodes) (nodes_from (suc file) files) (placed_at file f.nodes (from_all NodeFits f.nodes h.0))
+      (placed_from (suc file) files h.1)
 
   with_texts : (ns : List Placed) → Each PlacedNodeFits ns → Each PlacedTexts ns → Each PlacedFits ns
   with_texts [] h texts = tt
   with_texts (n ∷ ns) h texts = (fit_all terms n.node.body h.0 texts.0, with_texts ns h.1 texts.1)
 
-  pub fits_node : (files : List FileTree) → fitting.FitsFiles terms.signatures terms.entries files → All PlacedTexts (nodes_from 0 files) → (title : List ℕ) (node : Placed) → find title files ≡ Some node →
+  pub fits_node : (files : List FileTree) → fitting.FitsFiles terms.signatures terms.entries files → All PlacedTexts (nodes_from 0 files) →
+      (title : List ℕ) (node : Placed) → find title files ≡ Some node →
       FitsAll terms node.node.body
   fits_node files fits texts title node e =
       each_titled PlacedFits title (nodes_from 0 files) node
-      (with_texts (nodes_from 0 files) (placed_from 0 files (from_all (λ (f : FileTree). All NodeFits f.nodes) files fits)) (from_all PlacedTexts (nodes_from 0 files) texts)) e
+      (with_texts (nodes_from 0 files) (placed_from 0 files (from_all (λ (f : FileTree). All NodeFits f.nodes) files fits))
+      (from_all PlacedTexts (nodes_from 0 files) texts)) e

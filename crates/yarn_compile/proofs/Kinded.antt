@@ -81,7 +81,8 @@ chosen false x h = h
 
 pub args_kinded : (row : Option Row) (signature : Option Signature) (ks : List (Option Kind)) → is_some (called row signature ks) ≡ true →
     AllKinded ks
-args_kinded (Some row) signature ks h = all_of_kinds ks (row_kinded row.first row.second (kinds_of ks) (chosen (row_takes row.first row.second (kinds_of ks)) row.result h))
+args_kinded (Some row) signature ks h =
+    all_of_kinds ks (row_kinded row.first row.second (kinds_of ks) (chosen (row_takes row.first row.second (kinds_of ks)) row.result h))
 args_kinded None (Some s) ks h = all_of_each s.params ks (chosen (takes_each s.params ks) s.result h)
 args_kinded None None ks h = absurd cc
 

@@ -54,12 +54,14 @@ found_title title (x ∷ ns) node e = by_title (pointwise nat_eq x.node.title ti
 
 module _ (terms : Terms) where
   -- the code of a node is found as the node is
-  coded_titled : (title : List ℕ) (ns : List Placed) → code_titled title (map (node_code terms) ns) ≡ option_map (node_code terms) (first_titled title ns)
+  coded_titled : (title : List ℕ) (ns : List Placed) →
+      code_titled title (map (node_code terms) ns) ≡ option_map (node_code terms) (first_titled title ns)
   coded_titled title [] = refl
   coded_titled title (x ∷ ns) = by_title (pointwise nat_eq x.node.title title) (coded_titled title ns)
     where
       by_title : (b : Bool) → code_titled title (map (node_code terms) ns) ≡ option_map (node_code terms) (first_titled title ns) →
-          (if b then Some (node_code terms x) else code_titled title (map (node_code terms) ns)) ≡ option_map (node_code terms) (if b then Some x else first_titled title ns)
+          (if b then Some (node_code terms x) else code_titled title (map (node_code terms) ns)) ≡ option_map (node_code terms)
+          (if b then Some x else first_titled title ns)
       by_title true e = refl
       by_title false e = e
 
@@ -95,7 +97,8 @@ module _ (signatures : List Signature) (entries : List TypedName) (files : List 
         node = node;
         code = body_code terms node.node;
         found = here_code node.node.title (Some node) e;
-        known = λ pc count line name h none. known_functions terms p.nodes node.node.title (coded_node node (body_code terms node.node)) (here_code node.node.title (Some node) e) pc count line name h none;
+        known = λ pc count line name h none. known_functions terms p.nodes node.node.title (coded_node node (body_code terms node.node))
+            (here_code node.node.title (Some node) e) pc count line name h none;
       }
 
   -- where both are: a node of the files
@@ -111,10 +114,12 @@ module _ (signatures : List Signature) (entries : List TypedName) (files : List 
 
   -- the machine follows each piece
   abbrev Pieces : ℕ → Type 0
-  Pieces fuel = (stay : Stay) (st : State) → Fine st.store → Follows p fuel (running (here_of (site_of stay)) 0 [] [] st) (from signatures files fuel (piece_of stay) st)
+  Pieces fuel = (stay : Stay) (st : State) → Fine st.store →
+      Follows p fuel (running (here_of (site_of stay)) 0 [] [] st) (from signatures files fuel (piece_of stay) st)
 
   -- the end of a body stands behind its statements
-  end_stands : (node : Placed) → Stands (body_code terms node.node) (0 + size_all terms node.node.title node.node.body) (end_code terms node.node.title node.node.end_line)
+  end_stands : (node : Placed) →
+      Stands (body_code terms node.node) (0 + size_all terms node.node.title node.node.body) (end_code terms node.node.title node.node.end_line)
   end_stands node =
       let t : List ℕ = node.node.title in
       let code : List Coded = body_code terms node.node in
@@ -124,7 +129,8 @@ module _ (signatures : List Signature) (entries : List TypedName) (files : List 
       stands_as es (back_stands cs (end_code terms t node.node.end_line) (whole_stands code))
 
   body_stands : (node : Placed) → Stands (body_code terms node.node) 0 (stmts_code terms node.node.title 0 node.node.body)
-  body_stands node = front_stands (stmts_code terms node.node.title 0 node.node.body) (end_code terms node.node.title node.node.end_line) (whole_stands (body_code terms node.node))
+  body_stands node = front_stands (stmts_code terms node.node.title 0 node.node.body) (end_code terms node.node.title node.node.end_line)
+      (whole_stands (body_code terms node.node))
 
   module _ (fuel : ℕ) (pieces : Pieces fuel) where
     node_follows : (stay : Stay) (st : State) → Fine st.store →
@@ -142,11 +148,15 @@ module _ (signatures : List Signature) (entries : List TypedName) (files : List 
         Follows p (suc fuel) w (enters files (from signatures files fuel) site.node line title piece w1.state)
     enters_follow site w w1 line title piece good e = by_node (find title files) refl
       where
-        by_node : (o : Option Placed) → find title files ≡ o → Follows p (suc fuel) w (enters files (from signatures files fuel) site.node line title piece w1.state)
+        by_node : (o : Option Placed) → find title files ≡ o →
+            Follows p (suc fuel) w (enters files (from signatures files fuel) site.node line title piece w1.state)
         by_node None e1 =
-            subst (λ o. Follows p (suc fuel) w (at_node o (stands (faults_at site.node line (run.UnknownNode title)) w1.state) (λ to. in_node (from signatures files fuel) (entered piece to) w1.state))) (sym e1)
+            subst (λ o. Follows p (suc fuel) w
+            (at_node o (stands (faults_at site.node line (run.UnknownNode title)) w1.state)
+            (λ to. in_node (from signatures files fuel) (entered piece to) w1.state))) (sym e1)
             (breaks_here terms p site (suc fuel) w w1 line (run.UnknownNode title)
-            (e ∙ ap (λ o. when_some o (breaks (coded_node site.node site.code) line (run.UnknownNode title) w1) (λ to. Quiet (states.enters (moved_to title w1.here) w1.state))) (here_code title None e1)))
+            (e ∙ ap (λ o. when_some o (breaks (coded_node site.node site.code) line (run.UnknownNode title) w1)
+            (λ to. Quiet (states.enters (moved_to title w1.here) w1.state))) (here_code title None e1)))
         by_node (Some to) e1 =
             let named : to.node.title ≡ title = found_title title (nodes_from 0 files) to e1 in
             let e' : find to.node.title files ≡ Some to = ap (λ x. find x files) named ∙ e1 in
@@ -154,10 +164,14 @@ module _ (signatures : List Signature) (entries : List TypedName) (files : List 
               node = to;
               found = e';
             } in
-            subst (λ o. Follows p (suc fuel) w (at_node o (stands (faults_at site.node line (run.UnknownNode title)) w1.state) (λ to1. in_node (from signatures files fuel) (entered piece to1) w1.state))) (sym e1)
+            subst (λ o. Follows p (suc fuel) w
+            (at_node o (stands (faults_at site.node line (run.UnknownNode title)) w1.state)
+            (λ to1. in_node (from signatures files fuel) (entered piece to1) w1.state))) (sym e1)
             (quiet p (suc fuel) w (states.enters (moved_to title w1.here) w1.state) _
-            (e ∙ ap (λ o. when_some o (breaks (coded_node site.node site.code) line (run.UnknownNode title) w1) (λ to1. Quiet (states.enters (moved_to title w1.here) w1.state))) (here_code title (Some to) e1))
-            (subst (λ x. Follows p (suc fuel) (states.enters (moved_to x w1.here) w1.state) (in_node (from signatures files fuel) (entered piece to) w1.state)) named (node_follows stay w1.state good)))
+            (e ∙ ap (λ o. when_some o (breaks (coded_node site.node site.code) line (run.UnknownNode title) w1)
+            (λ to1. Quiet (states.enters (moved_to title w1.here) w1.state))) (here_code title (Some to) e1))
+            (subst (λ x. Follows p (suc fuel) (states.enters (moved_to x w1.here) w1.state)
+            (in_node (from signatures files fuel) (entered piece to) w1.state)) named (node_follows stay w1.state good)))
 
     module _ (stay : Stay) where
       abbrev site : Site terms p
@@ -179,12 +193,14 @@ module _ (signatures : List Signature) (entries : List TypedName) (files : List 
       abbrev piece : Piece
       piece = piece_of stay
 
-      goes_follow : (title : List ℕ) (pc line : ℕ) (st : State) → line_at (coded_node stay.node (body_code terms stay.node.node)) pc ≡ line → Fine st.store →
+      goes_follow : (title : List ℕ) (pc line : ℕ) (st : State) → line_at (coded_node stay.node (body_code terms stay.node.node)) pc ≡ line →
+          Fine st.store →
           Follows p (suc fuel) (machine (here_of site) pc [] [] (Rests (Ends (To title))) st) (enters files go stay.node line title piece st)
       goes_follow title pc line st at_line good =
           let w : MachineState = machine (here_of site) pc [] [] (Rests (Ends (To title))) st in
           enters_follow site w w line title piece good
-          (at_node_code terms p site (λ c. enters_to p c (line_at c pc) title w) ∙ ap (λ l. enters_to p (coded_node site.node site.code) l title w) at_line)
+          (at_node_code terms p site (λ c. enters_to p c (line_at c pc) title w) ∙ ap
+          (λ l. enters_to p (coded_node site.node site.code) l title w) at_line)
 
       abbrev outs : Outs terms p site (suc fuel) Fine
       outs = record {
@@ -199,7 +215,8 @@ module _ (signatures : List Signature) (entries : List TypedName) (files : List 
         puts = puts entries (titles_of files);
       }
 
-      piece_follows : (st : State) → Fine st.store → Follows p (suc fuel) (running (here_of site) 0 [] [] st) (after (does_all (scope_in site) stay.node.node.body st) (exits_of files go piece))
+      piece_follows : (st : State) → Fine st.store →
+          Follows p (suc fuel) (running (here_of site) 0 [] [] st) (after (does_all (scope_in site) stay.node.node.body st) (exits_of files go piece))
       piece_follows st good =
           let way : Way terms p site (suc fuel) Fine outs (0 + size_all terms t stay.node.node.body) [] = record {
             next = λ st1. leaves stay.node stay.node.node.end_line st1 finishes;
@@ -223,18 +240,23 @@ module _ (signatures : List Signature) (entries : List TypedName) (files : List 
         found = ap (λ x. find x files) named ∙ e;
       } in
       let f = node_follows k (pieces k) stay st good in
-      subst (λ o. ComesTo p (states.enters (here_in start) st) k (at_node o (stands Ended st) (λ n. in_node (from signatures files k) (starting signatures files n) st) k)) (sym e)
-      (subst (λ x. ComesTo p (states.enters (here_in x) st) k (in_node (from signatures files k) (starting signatures files node) st k)) named (f.by k (omega arith)))
+      subst (λ o. ComesTo p (states.enters (here_in start) st) k
+      (at_node o (stands Ended st) (λ n. in_node (from signatures files k) (starting signatures files n) st) k)) (sym e)
+      (subst (λ x. ComesTo p (states.enters (here_in x) st) k (in_node (from signatures files k) (starting signatures files node) st k)) named
+      (f.by k (omega arith)))
 
   -- the run begins with the variables of the project
   entry_is : (start : List ℕ) (st : State) → entry p start st ≡ states.enters (here_in start) (beginning entries files st)
   entry_is start st =
-      ap (λ ps. states.enters (here_in start) (record { store = with_missing st.store ps; answers = st.answers; tape = st.tape })) (pairs_same terms (variables_of entries files))
+      ap (λ ps. states.enters (here_in start) (record { store = with_missing st.store ps; answers = st.answers; tape = st.tape }))
+      (pairs_same terms (variables_of entries files))
 
   begins_fine : (st : State) → KeepsKinds (pairs_of p.variables) st.store → Fine (first_store st.store entries files)
   begins_fine st kept =
-      held_is_sound signatures entries files (first_store st.store entries files) (record { fits = known.typed.lines; unreserved = known.typed.unreserved })
-      (begun_held entries files st.store known.typed.apart known.typed.unreserved (subst (λ ps. KeepsKinds ps st.store) (pairs_same terms (variables_of entries files)) kept))
+      held_is_sound signatures entries files (first_store st.store entries files)
+      (record { fits = known.typed.lines; unreserved = known.typed.unreserved })
+      (begun_held entries files st.store known.typed.apart known.typed.unreserved
+      (subst (λ ps. KeepsKinds ps st.store) (pairs_same terms (variables_of entries files)) kept))
 
   entry_comes : (start : List ℕ) (node : Placed) (st : State) (k : ℕ) → find start files ≡ Some node → KeepsKinds (pairs_of p.variables) st.store →
       ComesTo p (entry p start st) k (first_of signatures files start (beginning entries files st) (suc k))
@@ -246,7 +268,8 @@ module _ (signatures : List Signature) (entries : List TypedName) (files : List 
       Gives p start st (suc k) (first_of signatures files start (beginning entries files st) (suc k))
   code_shows start node st k e kept = let c = entry_comes start node st k e kept in record { came = c.came; first = c.reached; is = c.is }
 
-  code_alone : (start : List ℕ) (node : Placed) (st : State) (k : ℕ) (r : Course) → find start files ≡ Some node → KeepsKinds (pairs_of p.variables) st.store →
+  code_alone : (start : List ℕ) (node : Placed) (st : State) (k : ℕ) (r : Course) → find start files ≡ Some node →
+      KeepsKinds (pairs_of p.variables) st.store →
       MFirst p (entry p start st) k r → outcome_of r ≡ first_of signatures files start (beginning entries files st) k
   code_alone start node st zero r e kept h = absurd h
   code_alone start node st (suc k) r e kept h =

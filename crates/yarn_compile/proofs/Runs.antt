@@ -11,7 +11,8 @@ both_first : (m : Moment) (a b : Option Course) (r r' : Course) → with_first m
 both_first m None b r r' e e' same = absurd cc
 both_first m (Some x) None r r' e e' same = absurd cc
 both_first m (Some x) (Some y) r r' e e' same =
-    let q : Some (record x { moments = m ∷ x.moments }) ≡ Some (record y { moments = m ∷ y.moments }) = ap (λ (z : Course). Some (record z { moments = m ∷ z.moments })) (same x y refl refl) in
+    let q : Some (record x { moments = m ∷ x.moments }) ≡ Some (record y { moments = m ∷ y.moments }) =
+    ap (λ (z : Course). Some (record z { moments = m ∷ z.moments })) (same x y refl refl) in
     cc
 
 both_counted : (n : ℕ) (a b : Option Course) (r r' : Course) → with_count n a ≡ Some r → with_count n b ≡ Some r' → ((x y : Course) →
@@ -19,7 +20,8 @@ both_counted : (n : ℕ) (a b : Option Course) (r r' : Course) → with_count n 
 both_counted n None b r r' e e' same = absurd cc
 both_counted n (Some x) None r r' e e' same = absurd cc
 both_counted n (Some x) (Some y) r r' e e' same =
-    let q : Some (record x { count = n + x.count }) ≡ Some (record y { count = n + y.count }) = ap (λ (z : Course). Some (record z { count = n + z.count })) (same x y refl refl) in
+    let q : Some (record x { count = n + x.count }) ≡ Some (record y { count = n + y.count }) =
+    ap (λ (z : Course). Some (record z { count = n + z.count })) (same x y refl refl) in
     cc
 
 agree_on : (go go' : MachineState → ℕ → Option Course) → ((w : MachineState) (k : ℕ) (r r' : Course) → go w k ≡ Some r → go' w k ≡ Some r' → r ≡ r') →

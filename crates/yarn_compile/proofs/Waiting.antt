@@ -65,7 +65,8 @@ module _ (terms : Terms) (p : Program) (site : Site terms p) (n : ℕ) (x : Exit
 
       none_left : (st : State) → answer_of st.answers ≡ None →
           Follows p n (machine (here_of site) pc stack [] (Rests (Options offers)) st) (after (done Waiting st) x)
-      none_left st e = halts p n _ (machine (here_of site) pc stack [] (Rests (Options offers)) st) moments.Waits (next_shown st true can ∙ ap (waiting_step st) e)
+      none_left st e = halts p n _ (machine (here_of site) pc stack [] (Rests (Options offers)) st) moments.Waits
+          (next_shown st true can ∙ ap (waiting_step st) e)
 
       of_answer : (fuel : ℕ) (st : State) → Good st.store → length st.answers ≤ suc fuel →
           ((st1 : State) → Good st1.store → length st1.answers ≤ fuel →
@@ -77,7 +78,8 @@ module _ (terms : Terms) (p : Program) (site : Site terms p) (n : ℕ) (x : Exit
       of_answer fuel st good le again None e = none_left st e
       of_answer fuel st good le again (Some a) e =
           let shorter : length a.rest < length st.answers = answer_shorter st.answers a e in
-          answered_follows st a (picked fuel (choices offers) (with_answers a.rest st) f) (chooses a.number (choices offers)) good e refl (again (with_answers a.rest st) good (omega arith))
+          answered_follows st a (picked fuel (choices offers) (with_answers a.rest st) f) (chooses a.number (choices offers)) good e refl
+          (again (with_answers a.rest st) good (omega arith))
 
       waiting : (fuel : ℕ) (st : State) → Good st.store → length st.answers ≤ fuel →
           Follows p n (machine (here_of site) pc stack [] (Rests (Options offers)) st) (after (picked fuel (choices offers) st f) x)
@@ -90,7 +92,8 @@ module _ (terms : Terms) (p : Program) (site : Site terms p) (n : ℕ) (x : Exit
       ((i : ℕ) (st : State) → Good st.store → is_open i (choices offers) ≡ true →
       Follows p n (running (here_of site) (pc + 1) (Destination (label_at i offers) ∷ stack) [] st) (after (f i st) x)) →
       (st : State) → Good st.store → (b : Bool) → any_open (choices offers) ≡ b →
-      Follows p n (machine (here_of site) (pc + 1) stack [] (Rests (Options offers)) st) (after (if b then picked (length st.answers) (choices offers) st f else done (Halted line (Faults run.NoOpenOption)) st) x)
+      Follows p n (machine (here_of site) (pc + 1) stack [] (Rests (Options offers)) st)
+      (after (if b then picked (length st.answers) (choices offers) st f else done (Halted line (Faults run.NoOpenOption)) st) x)
   shown pc line stack offers i f met chosen st good true can = waiting (pc + 1) stack offers f can chosen (length st.answers) st good (omega arith)
   shown pc line stack offers i f met chosen st good false none =
       let w : MachineState = machine (here_of site) (pc + 1) stack [] (Rests (Options offers)) st in

@@ -35,7 +35,8 @@ module _ (terms : Terms) (p : Program) (site : Site terms p) (n : ℕ) (x : Exit
   after_using halts w line (Halts y t) st f h = subst (Follows p n w) (sym (halts line y (with_tape t st))) h
 
   pub either : (b : Bool) (w : MachineState) (on off : ℕ) (stack : Stack) (st : State) (d1 d2 : Done) →
-      next p w ≡ Quiet (running (here_of site) (if b then on else off) stack [] st) → Follows p n (running (here_of site) on stack [] st) (after d1 x) →
+      next p w ≡ Quiet (running (here_of site) (if b then on else off) stack [] st) →
+      Follows p n (running (here_of site) on stack [] st) (after d1 x) →
       Follows p n (running (here_of site) off stack [] st) (after d2 x) → Follows p n w (after (if b then d1 else d2) x)
   either true w on off stack st d1 d2 e f g = quiet p n w (running (here_of site) on stack [] st) _ e f
   either false w on off stack st d1 d2 e f g = quiet p n w (running (here_of site) off stack [] st) _ e g
@@ -45,7 +46,8 @@ module _ (terms : Terms) (p : Program) (site : Site terms p) (n : ℕ) (x : Exit
 module _ (terms : Terms) (p : Program) (site : Site terms p) where
   -- without an event, the machine comes from a place to another one
   pub record Comes (pc : ℕ) (stack : Stack) (pc' : ℕ) (stack' : Stack) : Type 0 where
-    pub by : (n : ℕ) (st : State) (b : Behaviour) → Follows p n (running (here_of site) pc' stack' [] st) b → Follows p n (running (here_of site) pc stack [] st) b
+    pub by : (n : ℕ) (st : State) (b : Behaviour) → Follows p n (running (here_of site) pc' stack' [] st) b →
+        Follows p n (running (here_of site) pc stack [] st) b
 
   pub comes_as : (pc pc' : ℕ) (stack : Stack) → pc ≡ pc' → Comes pc stack pc' stack
   comes_as pc pc' stack e = subst (λ x. Comes pc stack x stack) e (record { by = λ n st b f. f })
@@ -54,7 +56,8 @@ module _ (terms : Terms) (p : Program) (site : Site terms p) where
   comes_on pc pc1 pc2 stack stack1 stack2 a b = record { by = λ n st x f. a.by n st x (b.by n st x f) }
 
   -- by one step
-  pub comes_by : (pc pc' : ℕ) (stack stack' : Stack) → ((st : State) → next p (running (here_of site) pc stack [] st) ≡ Quiet (running (here_of site) pc' stack' [] st)) →
+  pub comes_by : (pc pc' : ℕ) (stack stack' : Stack) →
+      ((st : State) → next p (running (here_of site) pc stack [] st) ≡ Quiet (running (here_of site) pc' stack' [] st)) →
       Comes pc stack pc' stack'
   comes_by pc pc' stack stack' e = record { by = λ n st b f. quiet p n _ _ b (e st) f }
 
@@ -107,8 +110,11 @@ module _ (terms : Terms) (p : Program) (site : Site terms p) (n : ℕ) (Good : P
 
     module _ (f : (st : State) → Good st.store → Follows p n (running (here_of site) pc stack [] st) (before_next st)) (laid : Stands site.code pc (stmts_code terms site.node.node.title pc b)) (fit : FitsAll terms b) (e : end ≡ pc + size_all terms site.node.node.title b) where
       after_more : (x : Exit) (ms : List Moment) (st : State) →
-          after (goes_on x ms st b (λ st1. does_all (scope_in site) b st1)) (exits end stack way) ≡ after (record { moments = ms; exit = x; state = st }) (exits pc stack (before f laid fit e))
-      after_more Through ms st = emit_all-append ms (does_all (scope_in site) b st).moments (left (does_all (scope_in site) b st).exit (does_all (scope_in site) b st).state (exits end stack way))
+          after (goes_on x ms st b (λ st1. does_all (scope_in site) b st1)) (exits end stack way) ≡ after
+          (record { moments = ms; exit = x; state = st }) (exits pc stack (before f laid fit e))
+      after_more Through ms st =
+          emit_all-append ms (does_all (scope_in site) b st).moments
+          (left (does_all (scope_in site) b st).exit (does_all (scope_in site) b st).state (exits end stack way))
       after_more (Jumps line title) ms st = refl
       after_more (Stops line) ms st = refl
       after_more (Halted line h) ms st = refl
