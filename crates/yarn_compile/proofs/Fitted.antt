@@ -14,7 +14,7 @@ use Rattle.yarn_expr.specs.declared.tree.Expr.TheFolds.{fold-roll-Expr}
 use Rattle.yarn_types.specs.declared.kind_set.KindSet.{KindSet}
 use Rattle.yarn_types.specs.KindSets.{holds}
 use Rattle.yarn_types.specs.Typings.{kinds_in}
-use Rattle.yarn_types.specs.Fits.{joined, is_in, taken_by, given_by, kind_of_variable}
+use Rattle.yarn_types.specs.Fits.{joined, is_in, taken_by, given_by}
 use Rattle.yarn_types.specs.Units.{kind_set}
 use Rattle.yarn_value.specs.Pairs.{Pairs}
 use Rattle.yarn_value.specs.Tape.{Tape}

@@ -3,7 +3,6 @@ use Rattle.std.proofs.Common.{◌≡◌, ℕ, ◌+◌, true, List, [], ◌∷◌
 use Rattle.std.specs.List.{list_all}
 use Rattle.yarn_value.specs.declared.value.Value.{Value}
 use Rattle.yarn_value.specs.declared.value.Value.TheVariants.{Str}
-use Rattle.yarn_value.specs.declared.value.Kind.{Kind}
 use Rattle.yarn_value.specs.declared.value.Kind.TheVariants as kind
 use Rattle.yarn_value.specs.Values.{kind_of}
 use Rattle.yarn_expr.specs.declared.tree.BinaryOp.TheVariants.{Eq}
@@ -13,7 +12,6 @@ use Rattle.yarn_blocks.specs.declared.entry.Simple.TheVariants as simple
 use Rattle.yarn_blocks.specs.declared.tree.LineText.{LineText}
 use Rattle.yarn_types.specs.KindSets.{only}
 use Rattle.yarn_types.specs.Typings.{kinds_in}
-use Rattle.yarn_types.specs.Fits.{joined}
 use Rattle.yarn_types.specs.Units.{kind_set}
 use Rattle.yarn_value.specs.Pairs.{put, Pairs}
 use Rattle.yarn_value.specs.Templates.{Part, template_of, expanded}
