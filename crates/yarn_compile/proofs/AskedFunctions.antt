@@ -18,8 +18,11 @@ named_last : (known : List Signature) (one : Signature) (name : List ℕ) →
 named_last [] one name = refl
 named_last (s ∷ known) one name = by_name (pointwise nat_eq s.name name) (named_last known one name)
   where
-    by_name : (b : Bool) → signature_named (known ++ one ∷ []) name ≡ option_or (signature_named known name) (if pointwise nat_eq one.name name then Some one else None) →
-        (if b then Some s else signature_named (known ++ one ∷ []) name) ≡ option_or (if b then Some s else signature_named known name) (if pointwise nat_eq one.name name then Some one else None)
+    by_name : (b : Bool) →
+        signature_named (known ++ one ∷ []) name ≡ option_or (signature_named known name)
+        (if pointwise nat_eq one.name name then Some one else None) →
+        (if b then Some s else signature_named (known ++ one ∷ []) name) ≡ option_or (if b then Some s else signature_named known name)
+        (if pointwise nat_eq one.name name then Some one else None)
     by_name true e = refl
     by_name false e = e
 
@@ -54,7 +57,8 @@ module _ (terms : Terms) where
   steps_on a b c x y = record { fine = λ name f. y.fine name (x.fine name f); settled = λ name s. y.settled name (x.settled name s) }
 
   -- one that is put last is one of the project
-  last_fine : (one : Signature) (own name : List ℕ) → signature_named terms.signatures own ≡ Some one → (b : Bool) → pointwise nat_eq one.name name ≡ b →
+  last_fine : (one : Signature) (own name : List ℕ) → signature_named terms.signatures own ≡ Some one → (b : Bool) →
+      pointwise nat_eq one.name name ≡ b →
       ((if b then Some one else None) ≡ None) ⊎ ((if b then Some one else None) ≡ signature_named terms.signatures name)
   last_fine one own name e true eb =
       let same : own ≡ name = sym (found_name terms.signatures one own e) ∙ (bytes_eq-Decides one.name name).0 eb in
@@ -72,12 +76,15 @@ module _ (terms : Terms) where
   or_settled None last project e (inr g) = g
   or_settled (Some s) last project e g = e
 
-  put_last : (known : List Signature) (one : Signature) (own : List ℕ) → signature_named terms.signatures own ≡ Some one → Step known (known ++ one ∷ [])
+  put_last : (known : List Signature) (one : Signature) (own : List ℕ) → signature_named terms.signatures own ≡ Some one →
+      Step known (known ++ one ∷ [])
   put_last known one own e = record {
     fine = λ name f. subst (λ o. (o ≡ None) ⊎ (o ≡ signature_named terms.signatures name)) (sym (named_last known one name))
-        (or_fine (signature_named known name) (if pointwise nat_eq one.name name then Some one else None) (signature_named terms.signatures name) f (last_fine one own name e (pointwise nat_eq one.name name) refl));
+        (or_fine (signature_named known name) (if pointwise nat_eq one.name name then Some one else None) (signature_named terms.signatures name) f
+        (last_fine one own name e (pointwise nat_eq one.name name) refl));
     settled = λ name s. named_last known one name
-        ∙ or_settled (signature_named known name) (if pointwise nat_eq one.name name then Some one else None) (signature_named terms.signatures name) s (last_fine one own name e (pointwise nat_eq one.name name) refl);
+        ∙ or_settled (signature_named known name) (if pointwise nat_eq one.name name then Some one else None)
+        (signature_named terms.signatures name) s (last_fine one own name e (pointwise nat_eq one.name name) refl);
   }
 
   -- ---- a name that is called
@@ -134,7 +141,8 @@ module _ (terms : Terms) where
   settles known name None e (inr f) = f
   settles known name (Some one) e f =
       let named : one.name ≡ name = found_name terms.signatures one name e in
-      by_there (is_some (signature_named known one.name)) (ap (λ x. is_some (signature_named known x)) (sym named)) (signature_named known name) refl f
+      by_there (is_some (signature_named known one.name)) (ap (λ x. is_some (signature_named known x)) (sym named))
+      (signature_named known name) refl f
     where
       of_last : pointwise nat_eq one.name name ≡ true → (o : Option Signature) → signature_named known name ≡ o → is_some o ≡ false →
           signature_named (known ++ one ∷ []) name ≡ signature_named terms.signatures name
@@ -145,7 +153,8 @@ module _ (terms : Terms) where
           Fine known name → Settled (if b then known else known ++ one ∷ []) name
       by_there true there o h (inr f') = f'
       by_there true there o h (inl f') = let x : is_some (signature_named known name) ≡ false = ap is_some f' in absurd cc
-      by_there false there o h f' = of_last ((bytes_eq-Decides one.name name).1 (found_name terms.signatures one name e)) (signature_named known name) refl there
+      by_there false there o h f' =
+          of_last ((bytes_eq-Decides one.name name).1 (found_name terms.signatures one name e)) (signature_named known name) refl there
 
   settles_call : (known : List Signature) (row : Option Row) (name : List ℕ) → row ≡ None → Fine known name →
       Settled (with_called terms known row name) name

@@ -14,19 +14,19 @@ use Rattle.yarn_expr.specs.declared.tree.Expr.TheFolds.{fold-roll-Expr}
 use Rattle.yarn_types.specs.declared.kind_set.KindSet.{KindSet}
 use Rattle.yarn_types.specs.KindSets.{holds}
 use Rattle.yarn_types.specs.Typings.{kinds_in}
-use Rattle.yarn_types.specs.Fits as fits
-use Rattle.yarn_types.specs.Fits.{joined, is_in, taken_by, given_by, kind_of_variable, kind_step}
-use Rattle.yarn_types.specs.Units.{has_kind, kind_set}
+use Rattle.yarn_types.specs.Fits.{joined, is_in, taken_by, given_by}
+use Rattle.yarn_types.specs.Units.{kind_set}
 use Rattle.yarn_value.specs.Pairs.{Pairs}
 use Rattle.yarn_value.specs.Tape.{Tape}
 use Rattle.yarn_meaning.specs.Eval.{eval, eval_step}
 use Rattle.yarn_value.specs.Evaluation.{Evaluated}
 use Rattle.yarn_meaning.specs.Does.{set_value}
-use Rattle.yarn_compile.specs.Code.{Terms, TypedCode, code_step, typed_expr, expr_code, set_code}
+use Rattle.yarn_compile.specs.Code.{Terms, kind_of_node, TypedCode, code_step, typed_expr, expr_code, set_code}
 use Rattle.yarn_kinds.specs.Typed.{variables_in}
 use Rattle.yarn_code.specs.declared.program.Program.{Program}
+use Rattle.yarn_compile.proofs.Kinded.{own_kind, is_kinded}
 use Rattle.yarn_compile.proofs.Follows.{Site, scope_in}
-use Rattle.yarn_compile.proofs.ExpressionsCompute.{Each}
+use Rattle.yarn_kinds.proofs.Names.{Each}
 
 pub in_set_kinded : (set : KindSet) (o : Option Kind) → is_in set o ≡ true → is_some o ≡ true
 in_set_kinded set (Some k) h = refl
@@ -54,14 +54,11 @@ joined_kind op (Some a) (Some b) h = (a, (refl, ap Some (sym (same_kinds a b (of
     of_test false y z h' = h'
 
 module _ (terms : Terms) where
-  abbrev kind_under : Expr → Option Kind
-  kind_under = fits.kind_of terms.signatures (variables_in terms.entries) (kinds_in terms.entries)
-
-  pub each_kinded : (es : List Expr) → list_all (has_kind terms.signatures (variables_in terms.entries) (kinds_in terms.entries)) es ≡ true →
-      Each (λ e. is_some (fits.kind_of terms.signatures (variables_in terms.entries) (kinds_in terms.entries) e) ≡ true) es
+  pub each_kinded : (es : List Expr) → list_all (is_kinded terms) es ≡ true →
+      Each (λ e. is_some (own_kind terms e) ≡ true) es
   each_kinded [] h = tt
   each_kinded (e ∷ es) h =
-      let both = and_parts (is_some (kind_under e)) (list_all (has_kind terms.signatures (variables_in terms.entries) (kinds_in terms.entries)) es) h in
+      let both = and_parts (is_some (own_kind terms e)) (list_all (is_kinded terms) es) h in
       (both.0, each_kinded es both.1)
 
 -- the expression that is set
@@ -89,10 +86,10 @@ module _ (terms : Terms) (p : Program) (site : Site terms p) where
       sym (ap (λ f. f t) whole ∙ ap (λ f. step (Expr-F.Binary op f (eval (scope_in site) store e)) t) left)
 
   pub set_kind-is : (name : List ℕ) (op : Option BinaryOp) (e : Expr) →
-      kind_set terms.signatures (variables_in terms.entries) (kinds_in terms.entries) name op e ≡ fits.kind_of terms.signatures (variables_in terms.entries) (kinds_in terms.entries) (set_expr name op e)
+      kind_set terms.signatures (variables_in terms.entries) (kinds_in terms.entries) name op e ≡ own_kind terms (set_expr name op e)
   set_kind-is name None e = refl
   set_kind-is name (Some op) e =
-      let step = kind_step terms.signatures (variables_in terms.entries) (kinds_in terms.entries) in
+      let step = kind_of_node terms in
       let whole = fold-roll-Expr (Option Kind) step (Expr-F.Binary op (roll-Expr (Expr-F.Variable name)) e) in
       let left = fold-roll-Expr (Option Kind) step (Expr-F.Variable name) in
-      sym (whole ∙ ap (λ k. step (Expr-F.Binary op k (fits.kind_of terms.signatures (variables_in terms.entries) (kinds_in terms.entries) e))) left)
+      sym (whole ∙ ap (λ k. step (Expr-F.Binary op k (own_kind terms e))) left)

@@ -2,16 +2,10 @@
 use Rattle.std.proofs.Common.{◌≡◌, ℕ, Bool, true, false, ◌&&◌, if◌then◌else◌, List, [], ◌∷◌, map, Option, Some, None, is_some, refl, sym, ap, ◌∙◌, subst}
 use Rattle.std.specs.Option.{option_map}
 use Rattle.yarn_value.specs.declared.value.Kind.{Kind}
-use Rattle.yarn_value.specs.declared.value.Value.{Value}
-use Rattle.yarn_value.specs.declared.value.Value.TheVariants.{Number, Str, Truth}
 use Rattle.yarn_value.specs.declared.signature.Signature.{Signature}
 use Rattle.yarn_value.specs.declared.builtin.Param.{Param}
-use Rattle.yarn_value.specs.Values.{kind_of}
-use Rattle.yarn_value.specs.Builtins.{Row, applied, builtin_named}
-use Rattle.yarn_expr.specs.declared.tree.UnaryOp.{UnaryOp}
-use Rattle.yarn_expr.specs.declared.tree.UnaryOp.TheVariants.{Neg, Not}
+use Rattle.yarn_value.specs.Builtins.{Row}
 use Rattle.yarn_expr.specs.declared.tree.BinaryOp.{BinaryOp}
-use Rattle.yarn_expr.specs.declared.tree.BinaryOp.TheVariants.{Mul, Div, Rem, Add, Sub, Lte, Gte, Lt, Gt, Eq, Neq, And, Or, Xor}
 use Rattle.yarn_expr.specs.declared.tree.Expr.{Expr}
 use Rattle.yarn_expr.specs.declared.tree.Expr.TheOpen.{Expr-F}
 use Rattle.yarn_expr.specs.declared.tree.Expr.TheViews.{roll-Expr}
@@ -19,46 +13,23 @@ use Rattle.yarn_expr.specs.declared.tree.Expr.TheFolds.{fold-roll-Expr, map-Expr
 use Rattle.yarn_types.specs.Typings.{kinds_in}
 use Rattle.yarn_types.specs.KindSets.{only}
 use Rattle.yarn_types.specs.Fits as fits
-use Rattle.yarn_types.specs.Fits.{joined, is_in, takes_each, kinds_of, row_takes, called, kind_step}
-use Rattle.yarn_meaning.specs.Eval.{unary_op, plus_of, binary_op}
-use Rattle.yarn_compile.specs.Code.{Terms, unary_name, plus_name, binary_name, TypedCode, kinds_of_all, code_step, typed_expr}
-use Rattle.yarn_kinds.specs.Typed.{variables_in}
+use Rattle.yarn_types.specs.Fits.{joined, is_in, takes_each, kinds_of, row_takes, called}
+use Rattle.yarn_value.specs.Pairs.{Pairs}
+use Rattle.yarn_compile.specs.Code.{Terms, kind_of_node, TypedCode, kinds_of_all, code_step, typed_expr}
+use Rattle.yarn_kinds.specs.Typed.{variables_in, Keeps}
 
--- ---- operators
+-- ---- under the typing of the project
 
-pub unary_row : (op : UnaryOp) → builtin_named (unary_name op) ≡ Some (applied (unary_name op) (unary_op op))
-unfolding builtin_named
-unary_row Neg = refl
-unary_row Not = refl
+-- the kind of an expression
+abbrev pub own_kind : Terms → Expr → Option Kind
+own_kind terms = fits.kind_of terms.signatures (variables_in terms.entries) (kinds_in terms.entries)
 
-plus_row : (v : Value) → builtin_named (plus_name (Some (kind_of v))) ≡ Some (applied (plus_name (Some (kind_of v))) (plus_of v))
-unfolding builtin_named
-plus_row (Number n) = refl
-plus_row (Str text) = refl
-plus_row (Truth b) = refl
+abbrev pub is_kinded : Terms → Expr → Bool
+is_kinded terms e = is_some (own_kind terms e)
 
--- the operation of an operator whose left side has the kind of its value
-pub binary_row : (op : BinaryOp) (v : Value) → builtin_named (binary_name op (Some (kind_of v))) ≡ Some (applied (binary_name op (Some (kind_of v))) (binary_op op v))
-unfolding builtin_named
-binary_row Mul v = refl
-binary_row Div v = refl
-binary_row Rem v = refl
-binary_row Add v = plus_row v
-binary_row Sub v = refl
-binary_row Lte v = refl
-binary_row Gte v = refl
-binary_row Lt v = refl
-binary_row Gt v = refl
-binary_row Eq v = refl
-binary_row Neq v = refl
-binary_row And v = refl
-binary_row Or v = refl
-binary_row Xor v = refl
-
--- the count of a node rises by this
-pub add_row : builtin_named (binary_name Sub None) ≡ Some (applied (binary_name Sub None) (binary_op Sub (Truth true)))
-unfolding builtin_named
-add_row = refl
+-- the store has the variables in their kinds
+abbrev pub KeepsOwn : Terms → Pairs → Type 0
+KeepsOwn terms = Keeps (variables_in terms.entries) (kinds_in terms.entries)
 
 -- ---- parts with a kind
 
@@ -110,57 +81,52 @@ chosen false x h = h
 
 pub args_kinded : (row : Option Row) (signature : Option Signature) (ks : List (Option Kind)) → is_some (called row signature ks) ≡ true →
     AllKinded ks
-args_kinded (Some row) signature ks h = all_of_kinds ks (row_kinded row.first row.second (kinds_of ks) (chosen (row_takes row.first row.second (kinds_of ks)) row.result h))
+args_kinded (Some row) signature ks h =
+    all_of_kinds ks (row_kinded row.first row.second (kinds_of ks) (chosen (row_takes row.first row.second (kinds_of ks)) row.result h))
 args_kinded None (Some s) ks h = all_of_each s.params ks (chosen (takes_each s.params ks) s.result h)
 args_kinded None None ks h = absurd cc
 
 -- ---- the kind in the code
 
 module _ (terms : Terms) (line : ℕ) where
-  abbrev pub kind_in : Expr → Option Kind
-  kind_in = fits.kind_of terms.signatures (variables_in terms.entries) (kinds_in terms.entries)
-
   abbrev code_in : Expr → TypedCode
   code_in = typed_expr terms line
 
   abbrev Same : Expr → Type 0
-  Same e = (code_in e).kind ≡ kind_in e
+  Same e = (code_in e).kind ≡ own_kind terms e
 
-  step_in : Expr-F (Option Kind) → Option Kind
-  step_in = kind_step terms.signatures (variables_in terms.entries) (kinds_in terms.entries)
-
-  kinds_same : (es : List ((e : Expr) × Same e)) → kinds_of_all (map code_in (map (λ z. z.0) es)) ≡ map kind_in (map (λ z. z.0) es)
+  kinds_same : (es : List ((e : Expr) × Same e)) → kinds_of_all (map code_in (map (λ z. z.0) es)) ≡ map (own_kind terms) (map (λ z. z.0) es)
   kinds_same [] = refl
   kinds_same (e ∷ es) = λ i. e.1 i ∷ kinds_same es i
 
   at_layer : (y : Expr-F ((e : Expr) × Same e)) → Same (roll-Expr (map-Expr ((e : Expr) × Same e) Expr (λ z. z.0) y))
   at_layer (Expr-F.Number n) =
       ap (λ c. c.kind) (fold-roll-Expr TypedCode (code_step terms line) (Expr-F.Number n))
-      ∙ sym (fold-roll-Expr (Option Kind) (kind_step terms.signatures (variables_in terms.entries) (kinds_in terms.entries)) (Expr-F.Number n))
+      ∙ sym (fold-roll-Expr (Option Kind) (kind_of_node terms) (Expr-F.Number n))
   at_layer (Expr-F.Str text) =
       ap (λ c. c.kind) (fold-roll-Expr TypedCode (code_step terms line) (Expr-F.Str text))
-      ∙ sym (fold-roll-Expr (Option Kind) (kind_step terms.signatures (variables_in terms.entries) (kinds_in terms.entries)) (Expr-F.Str text))
+      ∙ sym (fold-roll-Expr (Option Kind) (kind_of_node terms) (Expr-F.Str text))
   at_layer (Expr-F.Truth b) =
       ap (λ c. c.kind) (fold-roll-Expr TypedCode (code_step terms line) (Expr-F.Truth b))
-      ∙ sym (fold-roll-Expr (Option Kind) (kind_step terms.signatures (variables_in terms.entries) (kinds_in terms.entries)) (Expr-F.Truth b))
+      ∙ sym (fold-roll-Expr (Option Kind) (kind_of_node terms) (Expr-F.Truth b))
   at_layer (Expr-F.Variable name) =
       ap (λ c. c.kind) (fold-roll-Expr TypedCode (code_step terms line) (Expr-F.Variable name))
-      ∙ sym (fold-roll-Expr (Option Kind) (kind_step terms.signatures (variables_in terms.entries) (kinds_in terms.entries)) (Expr-F.Variable name))
+      ∙ sym (fold-roll-Expr (Option Kind) (kind_of_node terms) (Expr-F.Variable name))
   at_layer (Expr-F.Group e) =
       ap (λ c. c.kind) (fold-roll-Expr TypedCode (code_step terms line) (Expr-F.Group e.0)) ∙ e.1
-      ∙ sym (fold-roll-Expr (Option Kind) (kind_step terms.signatures (variables_in terms.entries) (kinds_in terms.entries)) (Expr-F.Group e.0))
+      ∙ sym (fold-roll-Expr (Option Kind) (kind_of_node terms) (Expr-F.Group e.0))
   at_layer (Expr-F.Unary op e) =
       ap (λ c. c.kind) (fold-roll-Expr TypedCode (code_step terms line) (Expr-F.Unary op e.0))
-      ∙ ap (λ k. kind_step terms.signatures (variables_in terms.entries) (kinds_in terms.entries) (Expr-F.Unary op k)) e.1
-      ∙ sym (fold-roll-Expr (Option Kind) (kind_step terms.signatures (variables_in terms.entries) (kinds_in terms.entries)) (Expr-F.Unary op e.0))
+      ∙ ap (λ k. kind_of_node terms (Expr-F.Unary op k)) e.1
+      ∙ sym (fold-roll-Expr (Option Kind) (kind_of_node terms) (Expr-F.Unary op e.0))
   at_layer (Expr-F.Binary op l r) =
       ap (λ c. c.kind) (fold-roll-Expr TypedCode (code_step terms line) (Expr-F.Binary op l.0 r.0))
-      ∙ (λ i. kind_step terms.signatures (variables_in terms.entries) (kinds_in terms.entries) (Expr-F.Binary op (l.1 i) (r.1 i)))
-      ∙ sym (fold-roll-Expr (Option Kind) (kind_step terms.signatures (variables_in terms.entries) (kinds_in terms.entries)) (Expr-F.Binary op l.0 r.0))
+      ∙ (λ i. kind_of_node terms (Expr-F.Binary op (l.1 i) (r.1 i)))
+      ∙ sym (fold-roll-Expr (Option Kind) (kind_of_node terms) (Expr-F.Binary op l.0 r.0))
   at_layer (Expr-F.Call name es) =
       ap (λ c. c.kind) (fold-roll-Expr TypedCode (code_step terms line) (Expr-F.Call name (map (λ z. z.0) es)))
-      ∙ ap (λ ks. kind_step terms.signatures (variables_in terms.entries) (kinds_in terms.entries) (Expr-F.Call name ks)) (kinds_same es)
-      ∙ sym (fold-roll-Expr (Option Kind) (kind_step terms.signatures (variables_in terms.entries) (kinds_in terms.entries)) (Expr-F.Call name (map (λ z. z.0) es)))
+      ∙ ap (λ ks. kind_of_node terms (Expr-F.Call name ks)) (kinds_same es)
+      ∙ sym (fold-roll-Expr (Option Kind) (kind_of_node terms) (Expr-F.Call name (map (λ z. z.0) es)))
 
-  pub kind_in_code : (e : Expr) → (typed_expr terms line e).kind ≡ fits.kind_of terms.signatures (variables_in terms.entries) (kinds_in terms.entries) e
+  pub kind_in_code : (e : Expr) → (typed_expr terms line e).kind ≡ own_kind terms e
   kind_in_code = ind-Expr Same (λ x y is. subst (λ z. Same (roll-Expr z)) is (at_layer y))

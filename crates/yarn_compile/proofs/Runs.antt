@@ -1,28 +1,42 @@
--- Two runs of one machine have one outcome.
-use Rattle.std.proofs.Common.{◌≡◌, ℕ, zero, suc, Option, Some, None, refl, ap}
-use Rattle.yarn_code.specs.Moments.{Moment, Outcome, moment, with_moment}
+-- Two runs of one machine come to the same.
+use Rattle.std.proofs.Common.{◌≡◌, ℕ, zero, suc, ◌+◌, ◌∷◌, Option, Some, None, refl, ap}
+use Rattle.yarn_code.specs.Moments.{Moment, moment}
 use Rattle.yarn_code.specs.declared.program.Program.{Program}
-use Rattle.yarn_code.specs.Machine.{World, Next, Quiet, Shows, Finishes, StandsAt, Stuck, next_of, with_first, follow, run}
+use Rattle.yarn_code.specs.MachineState.{MachineState}
+use Rattle.yarn_code.specs.Machine.{Stepped, Quiet, Shows, Finishes, StandsAt, Stuck, next}
+use Rattle.yarn_code.specs.Runs.{Course, ticks, with_first, with_count, follow, run}
+
+both_first : (m : Moment) (a b : Option Course) (r r' : Course) → with_first m a ≡ Some r → with_first m b ≡ Some r' → ((x y : Course) →
+    a ≡ Some x → b ≡ Some y → x ≡ y) → r ≡ r'
+both_first m None b r r' e e' same = absurd cc
+both_first m (Some x) None r r' e e' same = absurd cc
+both_first m (Some x) (Some y) r r' e e' same =
+    let q : Some (record x { moments = m ∷ x.moments }) ≡ Some (record y { moments = m ∷ y.moments }) =
+    ap (λ (z : Course). Some (record z { moments = m ∷ z.moments })) (same x y refl refl) in
+    cc
+
+both_counted : (n : ℕ) (a b : Option Course) (r r' : Course) → with_count n a ≡ Some r → with_count n b ≡ Some r' → ((x y : Course) →
+    a ≡ Some x → b ≡ Some y → x ≡ y) → r ≡ r'
+both_counted n None b r r' e e' same = absurd cc
+both_counted n (Some x) None r r' e e' same = absurd cc
+both_counted n (Some x) (Some y) r r' e e' same =
+    let q : Some (record x { count = n + x.count }) ≡ Some (record y { count = n + y.count }) =
+    ap (λ (z : Course). Some (record z { count = n + z.count })) (same x y refl refl) in
+    cc
+
+agree_on : (go go' : MachineState → ℕ → Option Course) → ((w : MachineState) (k : ℕ) (r r' : Course) → go w k ≡ Some r → go' w k ≡ Some r' → r ≡ r') →
+    (x : Stepped) (k : ℕ) (r r' : Course) → follow go x k ≡ Some r → follow go' x k ≡ Some r' → r ≡ r'
+agree_on go go' same (Quiet w) k r r' e e' = same w k r r' e e'
+agree_on go go' same (Shows ev w) zero r r' e e' = cc
+agree_on go go' same (Shows ev w) (suc k) r r' e e' = both_first (moment ev w.state) (go w k) (go' w k) r r' e e' (λ x y a b. same w k x y a b)
+agree_on go go' same (Finishes w) k r r' e e' = cc
+agree_on go go' same (StandsAt s w) k r r' e e' = cc
+agree_on go go' same Stuck k r r' e e' = absurd cc
 
 module _ (p : Program) where
-  both_first : (m : Moment) (a b : Option Outcome) (o o' : Outcome) → with_first p m a ≡ Some o → with_first p m b ≡ Some o' → ((x y : Outcome) →
-      a ≡ Some x → b ≡ Some y → x ≡ y) → o ≡ o'
-  both_first m None b o o' e e' same = absurd cc
-  both_first m (Some x) None o o' e e' same = absurd cc
-  both_first m (Some x) (Some y) o o' e e' same =
-      let q : with_moment m x ≡ with_moment m y = ap (with_moment m) (same x y refl refl) in
-      cc
-
-  agree_on : (go go' : World → ℕ → Option Outcome) → ((w : World) (k : ℕ) (o o' : Outcome) → go w k ≡ Some o → go' w k ≡ Some o' → o ≡ o') →
-      (x : Next) (k : ℕ) (o o' : Outcome) → follow p go x k ≡ Some o → follow p go' x k ≡ Some o' → o ≡ o'
-  agree_on go go' same (Quiet w) k o o' e e' = same w k o o' e e'
-  agree_on go go' same (Shows ev w) zero o o' e e' = cc
-  agree_on go go' same (Shows ev w) (suc k) o o' e e' = both_first (moment ev w.state) (go w k) (go' w k) o o' e e' (λ x y a b. same w k x y a b)
-  agree_on go go' same (Finishes st) k o o' e e' = cc
-  agree_on go go' same (StandsAt s st) k o o' e e' = cc
-  agree_on go go' same Stuck k o o' e e' = absurd cc
-
-  pub agree : (m n : ℕ) (w : World) (k : ℕ) (o o' : Outcome) → run p m w k ≡ Some o → run p n w k ≡ Some o' → o ≡ o'
-  agree zero n w k o o' e e' = absurd cc
-  agree (suc m) zero w k o o' e e' = absurd cc
-  agree (suc m) (suc n) w k o o' e e' = agree_on (run p m) (run p n) (λ w1 k1 o1 o1' a b. agree m n w1 k1 o1 o1' a b) (next_of p w) k o o' e e'
+  pub agree : (m n : ℕ) (w : MachineState) (k : ℕ) (r r' : Course) → run p m w k ≡ Some r → run p n w k ≡ Some r' → r ≡ r'
+  agree zero n w k r r' e e' = absurd cc
+  agree (suc m) zero w k r r' e e' = absurd cc
+  agree (suc m) (suc n) w k r r' e e' =
+      both_counted (ticks w.doing) (follow (run p m) (next p w) k) (follow (run p n) (next p w) k) r r' e e'
+      (λ x y a b. agree_on (run p m) (run p n) (λ w1 k1 x1 y1 a1 b1. agree m n w1 k1 x1 y1 a1 b1) (next p w) k x y a b)

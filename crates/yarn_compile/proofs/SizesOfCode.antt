@@ -23,7 +23,8 @@ module _ (terms : Terms) (title : List ℕ) where
       omega (arith, length-append (head_code terms title at o) more, length-head at o, length-heads (at + (size_all terms title body + 1)) os)
 
   pub length-ask : (otherwise : ℕ) (n : T.Asked) → length (ask_code terms title otherwise n) ≡ ask_size terms n
-  length-ask otherwise n = length-append (expr_code terms n.head.line n.condition) (coded n.head.line (instr.JumpIfFalse otherwise) ∷ coded n.head.line instr.Pop ∷ [])
+  length-ask otherwise n =
+      length-append (expr_code terms n.head.line n.condition) (coded n.head.line (instr.JumpIfFalse otherwise) ∷ coded n.head.line instr.Pop ∷ [])
 
   mutual
     pub length-stmt : (at : ℕ) (s : T.Stmt) → length (stmt_code terms title at s) ≡ size terms title s
@@ -34,7 +35,15 @@ module _ (terms : Terms) (title : List ℕ) where
         let hs = heads_code terms title bodies os in
         let bs = bodies_code terms title bodies end os in
         let pop : Coded = coded (group_line os) instr.Pop in
-        omega (arith, length-append hs (coded (group_line os) instr.ShowOptions ∷ coded (group_line os) instr.Jump ∷ (bs ++ pop ∷ [])), length-append bs (pop ∷ []), length-heads bodies os, length-bodies bodies end os)
+        omega (
+          arith,
+          length-append hs
+              (coded (group_line os) instr.ShowOptions ∷ coded (group_line os) instr.Jump ∷ (bs ++ pop ∷ [])),
+          length-append bs
+              (pop ∷ []),
+          length-heads bodies os,
+          length-bodies bodies end os,
+        )
     length-stmt at (Choice cs last e) =
         let end : ℕ = at + clauses_size terms title cs + last_size terms title last in
         let c = clauses_code terms title at end cs in
@@ -44,14 +53,26 @@ module _ (terms : Terms) (title : List ℕ) where
     pub length-stmts : (at : ℕ) (b : T.Stmts) → length (stmts_code terms title at b) ≡ size_all terms title b
     length-stmts at Nil = refl
     length-stmts at (Cons s b) =
-        omega (arith, length-append (stmt_code terms title at s) (stmts_code terms title (at + size terms title s) b), length-stmt at s, length-stmts (at + size terms title s) b)
+        omega (
+          arith,
+          length-append (stmt_code terms title at s) (stmts_code terms title (at + size terms title s) b),
+          length-stmt at s,
+          length-stmts
+              (at + size terms title s) b,
+        )
 
     pub length-bodies : (at end : ℕ) (os : T.Options) → length (bodies_code terms title at end os) ≡ bodies_size terms title os
     length-bodies at end NoOptions = refl
     length-bodies at end (AndOption o body os) =
         let b = stmts_code terms title at body in
         let more = bodies_code terms title (at + (size_all terms title body + 1)) end os in
-        omega (arith, length-append b (coded o.text.line (instr.JumpTo end) ∷ more), length-stmts at body, length-bodies (at + (size_all terms title body + 1)) end os)
+        omega (
+          arith,
+          length-append b (coded o.text.line (instr.JumpTo end) ∷ more),
+          length-stmts at body,
+          length-bodies
+              (at + (size_all terms title body + 1)) end os,
+        )
 
     pub length-clauses : (at end : ℕ) (cs : T.Clauses) → length (clauses_code terms title at end cs) ≡ clauses_size terms title cs
     length-clauses at end NoClauses = refl

@@ -3,4 +3,4 @@
 
 mod laws;
 
-pub use laws::code_is_valid;
+pub use laws::{code_is_valid, code_means_the_same, counts_rise, operators_have_rows};
