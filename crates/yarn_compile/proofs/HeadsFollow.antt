@@ -35,7 +35,7 @@ use Rattle.yarn_compile.proofs.Follows.{Stands, first_stands, front_stands, back
 use Rattle.yarn_compile.proofs.Kinded.{own_kind, is_kinded, KeepsOwn}
 use Rattle.yarn_compile.proofs.Fitted.{in_set_kinded, each_kinded}
 use Rattle.yarn_compile.proofs.ExpressionsCompute.{expr_follows, exprs_follow}
-use Rattle.yarn_compile.proofs.SizesOfCode.{length-head}
+use Rattle.yarn_compile.proofs.CodeSizes.{length-head}
 use Rattle.yarn_compile.proofs.Ways.{after_using}
 use Rattle.yarn_compile.proofs.Sound.{FitsOptions}
 

@@ -19,7 +19,6 @@ mod Rows
 mod Follows
 mod Kinded
 mod ExpressionsCompute
-mod SizesOfCode
 mod Leaving
 mod Answering
 mod Fitted

@@ -35,7 +35,7 @@ use Rattle.yarn_compile.specs.Code.{Terms, terms_of, program_of, variables_for, 
 use Rattle.yarn_compile.specs.Correct.{Gives, Means, SameMoments}
 use Rattle.yarn_compile.proofs.Follows.{Stands, front_stands, back_stands, stands_as, whole_stands, running, coded_node, Site, here_of, scope_in, ComesTo, Follows, quiet, shows, breaks_here, at_node_code}
 use Rattle.yarn_compile.proofs.Sound.{FitsAll}
-use Rattle.yarn_compile.proofs.SizesOfCode.{length-stmts}
+use Rattle.yarn_compile.proofs.CodeSizes.{length-stmts}
 use Rattle.yarn_compile.proofs.Leaving.{stop_follows}
 use Rattle.yarn_compile.proofs.Ways.{Outs, Way}
 use Rattle.yarn_compile.proofs.StatementsFollow.{stmts_follow}

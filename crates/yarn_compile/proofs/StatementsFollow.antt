@@ -26,7 +26,7 @@ use Rattle.yarn_compile.proofs.Follows.{Stands, first_stands, rest_stands, front
 use Rattle.yarn_compile.proofs.Kinded.{own_kind}
 use Rattle.yarn_compile.proofs.Fitted.{in_set_kinded}
 use Rattle.yarn_compile.proofs.ExpressionsCompute.{expr_follows}
-use Rattle.yarn_compile.proofs.SizesOfCode.{length-heads, length-ask, length-stmt, length-stmts, length-bodies, length-clauses}
+use Rattle.yarn_compile.proofs.CodeSizes.{length-heads, length-ask, length-stmt, length-stmts, length-bodies, length-clauses}
 use Rattle.yarn_compile.proofs.Ways.{after_using, either, Outs, Way, exits, moved, before, after_and_on, comes_by, comes_as}
 use Rattle.yarn_compile.proofs.Sound.{FitsAll, FitsOne, FitsOptions, FitsClauses, FitsLast}
 use Rattle.yarn_compile.proofs.Waiting.{shown}
