@@ -3,4 +3,4 @@
 
 mod laws;
 
-pub use laws::code_is_valid;
+pub use laws::{code_is_valid, fields_are_kept};
