@@ -34,10 +34,10 @@ module _ (terms : Terms) where
   condition_fine line (Some e) h = h.codes terms line
 
   exit_fine : (title : List ℕ) (line : ℕ) → FineCode (exit_code terms title line)
-  exit_fine title line = (tt, refl, tt, tt, tt, tt)
+  exit_fine title line = (tt, (refl, (tt, (tt, (tt, tt)))))
 
   stop_fine : (title : List ℕ) (line : ℕ) → FineCode (stop_code terms title line)
-  stop_fine title line = (tt, refl, tt, tt, tt, tt, tt)
+  stop_fine title line = (tt, (refl, (tt, (tt, (tt, (tt, tt))))))
 
   set_fine : (line : ℕ) (name : List ℕ) (op : Option BinaryOp) (e : Expr) → FineExpr e → FineCode (set_code terms line name op e)
   set_fine line name None e h = h.codes terms line
@@ -46,9 +46,9 @@ module _ (terms : Terms) where
   simple_fine : (title : List ℕ) (s : Simple) → FineSimple s → SimpleText s → FineCode (simple_code terms title s)
   simple_fine title (simple.Line text) h is = then_fine (exprs_code terms text.line text.holes) _ (exprs_fine text.line text.holes h) (is.few, tt)
   simple_fine title (simple.Command text) h is = then_fine (exprs_code terms text.line text.holes) _ (exprs_fine text.line text.holes h) (is, tt)
-  simple_fine title (simple.Set head name op e) h is = then_fine (set_code terms head.line name op e) _ (set_fine head.line name op e h.1) (tt, tt, tt)
+  simple_fine title (simple.Set head name op e) h is = then_fine (set_code terms head.line name op e) _ (set_fine head.line name op e h.1) (tt, (tt, tt))
   simple_fine title (simple.Declare head name v kind) h is = tt
-  simple_fine title (simple.Jump head to) h is = then_fine (exit_code terms title head.line) _ (exit_fine title head.line) (h, tt, tt)
+  simple_fine title (simple.Jump head to) h is = then_fine (exit_code terms title head.line) _ (exit_fine title head.line) (h, (tt, tt))
   simple_fine title (simple.JumpTo head e) h is =
       then_fine (expr_code terms head.line e) _ (h.codes terms head.line) (then_fine (exit_code terms title head.line) _ (exit_fine title head.line) (tt, tt))
   simple_fine title (simple.Stop head) h is = stop_fine title head.line
@@ -67,7 +67,7 @@ module _ (terms : Terms) where
         (head_fine bodies n h.0 is.0) (heads_fine (bodies + (size_all terms title body + 1)) os h.2 is.2)
 
     ask_fine : (otherwise : ℕ) (n : Asked) → FineExpr n.condition → FineCode (ask_code terms title otherwise n)
-    ask_fine otherwise n h = then_fine (expr_code terms n.head.line n.condition) _ (h.codes terms n.head.line) (tt, tt, tt)
+    ask_fine otherwise n h = then_fine (expr_code terms n.head.line n.condition) _ (h.codes terms n.head.line) (tt, (tt, tt))
 
     mutual
       stmt_fine : (at : ℕ) (s : T.Stmt) → FineOne s → TextsOfOne s → FineCode (stmt_code terms title at s)
@@ -76,7 +76,7 @@ module _ (terms : Terms) where
           let to : ℕ = at + heads_size terms os + 2 in
           let end : ℕ = at + heads_size terms os + 2 + bodies_size terms title os in
           then_fine (heads_code terms title to os) _ (heads_fine to os h is)
-          (tt, tt, then_fine (bodies_code terms title to end os) _ (bodies_fine to end os h is) (tt, tt))
+          (tt, (tt, then_fine (bodies_code terms title to end os) _ (bodies_fine to end os h is) (tt, tt)))
       stmt_fine at (Choice cs last e) h is =
           let end : ℕ = at + clauses_size terms title cs + last_size terms title last in
           then_fine (clauses_code terms title at end cs) (last_code terms title (at + clauses_size terms title cs) last)
@@ -100,7 +100,7 @@ module _ (terms : Terms) where
           then_fine (ask_code terms title (at + ask_size terms n + size_all terms title body + 1) n) _
           (ask_fine (at + ask_size terms n + size_all terms title body + 1) n h.0)
           (then_fine (stmts_code terms title (at + ask_size terms n) body) _ (stmts_fine (at + ask_size terms n) body h.1 is.0)
-          (tt, tt, clauses_fine (at + ask_size terms n + size_all terms title body + 2) end cs h.2 is.1))
+          (tt, (tt, clauses_fine (at + ask_size terms n + size_all terms title body + 2) end cs h.2 is.1)))
 
       last_fine : (at : ℕ) (last : T.Last) → FineLast last → TextsOfLast last → FineCode (last_code terms title at last)
       last_fine at NoElse h is = tt

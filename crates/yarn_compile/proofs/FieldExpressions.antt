@@ -1,6 +1,6 @@
 -- The code of an expression has fine operands, and its variables are names behind a `$`.
 use Rattle.std.proofs.Common.{◌≡◌, ℕ, ℤ, zero, suc, ◌≤◌, List, [], ◌∷◌, ◌++◌, length, map, pos, Option, Some, None, refl, sym, ap, ◌∙◌, subst, arith, Bool, true, false, if◌then◌else◌}
-use Rattle.std.specs.Prelude.{negsuc, neg_ℤ, nat_lt, unwrap_or, ◌^◌}
+use Rattle.std.specs.Prelude.{negsuc, neg_ℤ, nat_lt, unwrap_or, ◌^◌, ◌||◌, codes}
 use Rattle.std.specs.List.{flat_map}
 use Rattle.std.proofs.lemmas.Bool.Decides.{nat_tests}
 use Rattle.yarn_value.specs.declared.value.Value.TheVariants as value
@@ -8,14 +8,12 @@ use Rattle.yarn_value.specs.Numbers.{fits}
 use Rattle.yarn_expr.specs.declared.token.Token.{Token}
 use Rattle.yarn_expr.specs.declared.token.Token.TheVariants as token
 use Rattle.yarn_expr.specs.declared.token.Sign.TheVariants as sign
-use Rattle.yarn_expr.specs.declared.word.WordMeaning.{WordMeaning}
-use Rattle.yarn_expr.specs.declared.word.WordMeaning.TheVariants as word
 use Rattle.yarn_expr.specs.declared.tree.UnaryOp.{UnaryOp}
 use Rattle.yarn_expr.specs.declared.tree.BinaryOp.{BinaryOp}
 use Rattle.yarn_expr.specs.declared.tree.Expr.{Expr}
 use Rattle.yarn_expr.specs.declared.tree.Expr.TheVariants as expr
 use Rattle.yarn_expr.specs.declared.tree.Expr.TheOpen.{Expr-F}
-use Rattle.yarn_expr.specs.Word.{meaning_of}
+use Rattle.yarn_expr.specs.Word.{is_spelled, meaning_of}
 use Rattle.yarn_expr.specs.Plain.{Tree, Leaf, Group, Call, Unary, Binary, Trees, NoTrees, AndTree, fitted, value_after, number_of, word_leaf, leaf_of, expr_at, expr_of, exprs_of}
 use Rattle.yarn_expr.specs.Expression.{Spells, SpellsAll}
 use Rattle.yarn_expr.proofs.Layers.{at_number, at_string, at_truth, at_variable, at_group, at_unary, at_binary, at_call}
@@ -183,18 +181,43 @@ mutual
         all_leaves_fine (AndTree f es) is.others is.others_spelled (each_back FineToken is.first (token.Sign sign.Comma ∷ is.others) both).1,
       )
 
-word_fine : (m : WordMeaning) → FineExpr (expr_at (word_leaf m))
-word_fine (word.Literal b) = fine_truth b
-word_fine (word.Operator op) = fine_number (pos 0) refl
-word_fine word.Negation = fine_number (pos 0) refl
-word_fine word.Name = fine_number (pos 0) refl
+-- what holds of both sides of a test holds of what it gives
+either : {A : Type 0} (f : A → Option Expr) (P : Option Expr → Type 0) (b : Bool) (x y : A) → P (f x) → P (f y) → P (f (if b then x else y))
+either f P true x y one two = one
+either f P false x y one two = two
+
+-- the literals among words
+abbrev FineLeaf : Option Expr → Type 0
+FineLeaf o = FineExpr (expr_at o)
+
+no_literal : FineLeaf None
+no_literal = fine_number (pos 0) refl
+
+word_fine : (w : List ℕ) → FineLeaf (word_leaf (meaning_of w))
+unfolding meaning_of
+word_fine w =
+    either word_leaf FineLeaf (is_spelled w (codes "lte")) _ _ no_literal
+    (either word_leaf FineLeaf (is_spelled w (codes "gte")) _ _ no_literal
+    (either word_leaf FineLeaf (is_spelled w (codes "lt")) _ _ no_literal
+    (either word_leaf FineLeaf (is_spelled w (codes "gt")) _ _ no_literal
+    (either word_leaf FineLeaf (is_spelled w (codes "is") || is_spelled w (codes "eq")) _ _ no_literal
+    (either word_leaf FineLeaf (is_spelled w (codes "neq")) _ _ no_literal
+    (either word_leaf FineLeaf (is_spelled w (codes "and")) _ _ no_literal
+    (either word_leaf FineLeaf (is_spelled w (codes "or")) _ _ no_literal
+    (either word_leaf FineLeaf (is_spelled w (codes "xor")) _ _ no_literal
+    (either word_leaf FineLeaf (is_spelled w (codes "not")) _ _ no_literal
+    (either word_leaf FineLeaf (is_spelled w (codes "true")) _ _ (literal true)
+    (either word_leaf FineLeaf (is_spelled w (codes "false")) _ _ (literal false) no_literal)))))))))))
+  where
+    literal : (b : Bool) → FineLeaf (Some (expr.Truth b))
+    literal b = fine_truth b
 
 leaf_fine : (t : Token) → FineToken t → FineExpr (expr_at (leaf_of t))
 leaf_fine (token.Number digits) h = fine_number (pos (unwrap_or (number_of digits) 0)) (number_small digits)
 leaf_fine (token.Fraction digits) h = fine_number (pos 0) refl
 leaf_fine (token.Str text) h = fine_string text h
 leaf_fine (token.Variable name) h = fine_variable name h
-leaf_fine (token.Word w) h = word_fine (meaning_of w)
+leaf_fine (token.Word w) h = word_fine w
 leaf_fine (token.Sign s) h = fine_number (pos 0) refl
 
 mutual

@@ -70,7 +70,7 @@ pieces_fine (hole {bytes = bytes} {inside = inside} {more = behind} braced later
     let both = middle front bytes inside behind (brace-split braced) utf8 short in
     let more = pieces_fine later [] both.1.utf8 both.1.short in
     ((both.0, more.0), more.1)
-pieces_fine (char {c = c} {bytes = bytes} is no later) front utf8 short =
+pieces_fine (char {c = c} {bytes = bytes} is plain later) front utf8 short =
     let more = pieces_fine later (front ++ c ∷ []) (moved front bytes c utf8) (omega (arith, short)) in
     ((tt, more.0), more.1)
 

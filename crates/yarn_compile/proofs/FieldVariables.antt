@@ -1,6 +1,6 @@
 -- The variables of an accepted project's code: each is a name behind a `$` with a value that fits, and none comes again.
 use Rattle.std.proofs.Common.{◌≡◌, ℕ, suc, ◌<◌, ◌≤◌, List, [], ◌∷◌, ◌++◌, length, map, pos, Option, Some, None, is_some, refl, sym, ap, ◌∙◌, subst, arith, Bool, true, false, ◌||◌, ◌&&◌, ◌==◌, if◌then◌else◌, All}
-use Rattle.std.specs.Prelude.{codes, drop, nat_lt, unwrap_or}
+use Rattle.std.specs.Prelude.{codes, drop, nat_lt, unwrap_or, IsUtf8}
 use Rattle.std.specs.List.{list_all, flat_map}
 use Rattle.std.specs.Str.{chars}
 use Rattle.std.specs.Char.{is_ascii_alphanumeric}
@@ -8,7 +8,7 @@ use Rattle.std.proofs.lemmas.Bool.{and_parts, and_from, false≢true}
 use Rattle.std.proofs.lemmas.Bool.Decides.{nat_tests}
 use Rattle.std.proofs.lemmas.List.Elements.{All-nil, All-cons, All-head, All-tail}
 use Rattle.std.proofs.lemmas.List.Folds.{list_all-append}
-use Rattle.std.proofs.lemmas.Str.{IsUtf8-from_is_utf8, chars-append}
+use Rattle.std.proofs.lemmas.Str.{chars-append}
 use Rattle.unicode_ident.specs.Ident.{is_xid_start, is_xid_continue}
 use Rattle.unicode_ident.proofs.IdentLemmas.{is_xid_start-ascii, is_xid_continue-ascii, is_xid_start-is_xid_continue}
 use Rattle.yarn_base.specs.declared.Place.{Place}
@@ -21,6 +21,7 @@ use Rattle.yarn_value.specs.declared.signature.Signature.{Signature}
 use Rattle.yarn_value.specs.Pairs.{Pairs, same_name, value_under}
 use Rattle.yarn_value.specs.Visits.{count_name}
 use Rattle.yarn_expr.specs.declared.tree.Expr.{Expr}
+use Rattle.yarn_expr.proofs.Shown.{ascii-spelt, ascii-scalar}
 use Rattle.yarn_blocks.specs.declared.entry.Simple.{Simple}
 use Rattle.yarn_blocks.specs.declared.entry.Simple.TheVariants as simple
 use Rattle.yarn_blocks.specs.Tree as T
@@ -256,11 +257,11 @@ starts_continues : (c : ℕ) → starts_name c ≡ true → continues_name c ≡
 starts_continues c h = by_start (is_xid_start c) refl
   where
     by_low : is_xid_start c ≡ false → (b : Bool) → (c == 95) ≡ b → continues_name c ≡ true
-    by_low no true is = subst (λ x. continues_name x ≡ true) (sym (low c is)) (ascii_continues 95 refl)
+    by_low other true is = subst (λ x. continues_name x ≡ true) (sym (low c is)) (ascii_continues 95 refl)
       where
         low : (c : ℕ) → (c == 95) ≡ true → c ≡ 95
         low c e = grind (arith, nat_tests)
-    by_low no false is = let f = rw (no, is) at h in absurd cc
+    by_low other false is = let f = rw (other, is) at h in absurd cc
 
     by_start : (b : Bool) → is_xid_start c ≡ b → continues_name c ≡ true
     by_start true is = let continues = is_xid_start-is_xid_continue c is in rw continues refl
@@ -278,6 +279,9 @@ front = codes "$Yarn.Internal.Visiting."
 abbrev behind : List ℕ
 behind = codes "arn.Internal.Visiting."
 
+front_utf8 : IsUtf8 front
+front_utf8 = (front, (ascii-scalar front refl, sym (ascii-spelt front refl)))
+
 front_chars : chars front ≡ front
 unfolding chars
 front_chars = refl
@@ -293,7 +297,7 @@ front_named cs h =
 count_named : (title : List ℕ) → IsName title → IsVariableName (count_name title)
 unfolding count_name
 count_named title h =
-    let same : chars (front ++ title) ≡ front ++ chars title = chars-append front title (IsUtf8-from_is_utf8 front refl) ∙ ap (λ (l : List ℕ). l ++ chars title) front_chars in
+    let same : chars (front ++ title) ≡ front ++ chars title = chars-append front title front_utf8 ∙ ap (λ (l : List ℕ). l ++ chars title) front_chars in
     ap is_variable_of same ∙ front_named (chars title) (name_continues (chars title) h)
 
 count_reserved : (title : List ℕ) → is_reserved_name (count_name title) ≡ true
