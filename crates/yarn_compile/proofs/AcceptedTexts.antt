@@ -25,7 +25,7 @@ use Rattle.yarn_nodes.proofs.LinesLemmas.{item-found}
 use Rattle.yarn_nodes.proofs.NotedLemmas.{mode-past}
 use Rattle.yarn_tree.specs.Laws.{HasFineLines, ReadExactly}
 use Rattle.yarn_tree.specs.Project.{AllHaveLines}
-use Rattle.yarn_tree.specs.Trees.{NodeTree, FileTree, stmts_or_none, grown_node, grown}
+use Rattle.yarn_tree.specs.Trees.{stmts_or_none, grown_node, grown}
 use Rattle.yarn_types.specs.declared.typed.TypedName.{TypedName}
 use Rattle.yarn_meaning.specs.First.{Placed, nodes_at, nodes_from}
 use Rattle.yarn_kinds.specs.Typed.{AreAccepted}

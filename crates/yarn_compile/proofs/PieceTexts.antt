@@ -1,5 +1,5 @@
 -- The pieces of a line and of a command for the game make templates (docs/language.md, Texts and commands).
-use Rattle.std.proofs.Common.{◌≡◌, ℕ, suc, ◌+◌, ◌<◌, ◌≤◌, List, [], ◌∷◌, ◌++◌, length, Bool, true, false, nat_eq, Option, Some, None, refl, sym, ap, ◌∙◌, subst, arith}
+use Rattle.std.proofs.Common.{◌≡◌, ℕ, ◌+◌, ◌≤◌, List, [], ◌∷◌, ◌++◌, length, Bool, true, false, nat_eq, refl, sym, ap, subst, arith}
 use Rattle.std.specs.Prelude.{not}
 use Rattle.std.specs.Str.{chars}
 use Rattle.std.proofs.lemmas.Bool.{eqb-true, ne_eqb}
@@ -180,6 +180,7 @@ game_read (G.char {c = c} {bytes = bytes} {pieces = pieces} is read) n k small f
   where
     other : ℕ → Bool
     other x = not (is_char x)
+
     is_other : other c ≡ false
     is_other = ap not is
 

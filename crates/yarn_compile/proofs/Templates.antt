@@ -1,6 +1,6 @@
 -- What reading a text as a template needs of its bytes: trimmed, it is one still, and `{k}` is one placeholder.
-use Rattle.std.proofs.Common.{◌≡◌, ℕ, ◌+◌, ◌-◌, ◌*◌, ◌/◌, ◌%◌, ◌<◌, ◌≤◌, List, [], ◌∷◌, ◌++◌, length, Bool, true, false, nat_eq, Option, Some, None, refl, sym, ap, ◌∙◌, subst, arith}
-use Rattle.std.specs.Prelude.{nat_lt, not, ◌&&◌, is_some, IsTrue}
+use Rattle.std.proofs.Common.{◌≡◌, ℕ, ◌+◌, ◌-◌, ◌*◌, ◌/◌, ◌%◌, ◌<◌, ◌≤◌, List, [], ◌∷◌, ◌++◌, Bool, true, false, nat_eq, Option, Some, None, refl, sym, ap, ◌∙◌, subst, arith}
+use Rattle.std.specs.Prelude.{nat_lt, not, ◌&&◌}
 use Rattle.std.specs.List.{list_all}
 use Rattle.std.specs.Fmt.{decimal}
 use Rattle.std.proofs.lemmas.Bool.{eqb-true, lt-ltb, le-leb}
@@ -10,7 +10,7 @@ use Rattle.std.proofs.lemmas.Option.{same_Some}
 use Rattle.yarn_lines.specs.Lines.{is_blank, past_leading, without_trailing}
 use Rattle.yarn_items.specs.Text.{hole_text, trimmed}
 use Rattle.yarn_value.specs.Numbers.{is_digit}
-use Rattle.yarn_value.specs.Templates.{Mark, Stands, Brace, Placeholder, Place, Plain, Behind, Opened, Digits, before, is_brace, marks, placeholders, size, template_of}
+use Rattle.yarn_value.specs.Templates.{Mark, Stands, Brace, Placeholder, Place, Plain, Behind, Opened, Digits, before, is_brace, marks, placeholders, size}
 use Rattle.yarn_code.specs.Fields.{IsText}
 
 -- the bytes, read from that place on, are marks, with at most so many placeholders and at most so many bytes
@@ -267,7 +267,7 @@ leading_read n (b ∷ bytes) few most r = by_test (leading_read n bytes few most
 pub trimmed_read : (n : ℕ) (bytes : List ℕ) (few most : ℕ) → IsRead n Plain bytes few most → IsRead n Plain (trimmed bytes) few most
 trimmed_read n bytes few most r =
     leading_read n (without_trailing bytes) few most (
-      weaker n Plain (without_trailing bytes) (placeholders r.own) (size r.own) few most r.few r.small (trailing_read n bytes Plain r.own r.is)
+    weaker n Plain (without_trailing bytes) (placeholders r.own) (size r.own) few most r.few r.small (trailing_read n bytes Plain r.own r.is)
     )
 
 -- what is read so, with at most 16 placeholders and 65,536 bytes, is a template

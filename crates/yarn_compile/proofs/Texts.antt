@@ -1,5 +1,5 @@
 -- The texts of the lines, options and commands of a tree are templates (docs/instructions.md, Programs).
-use Rattle.std.proofs.Common.{List, [], ◌∷◌, ◌++◌, length, subst, All}
+use Rattle.std.proofs.Common.{List, [], ◌∷◌, ◌++◌, length, subst}
 use Rattle.std.specs.List.{AllByRecursion}
 use Rattle.yarn_blocks.specs.declared.entry.Entry.{Entry}
 use Rattle.yarn_blocks.specs.declared.entry.Simple.{Simple}
