@@ -81,7 +81,8 @@ number_short most cs h = by_point (behind_point (past is_digit cs)) refl
 abbrev AreWithin : ℕ → Quoted → Type 0
 AreWithin most q = (size q.body ≤ most) × (size q.rest ≤ most)
 
-char_within : (x : ℕ) (xs : List ℕ) (o : Option Quoted) (q : Quoted) → with_char x o ≡ Some q → ((p : Quoted) → o ≡ Some p → AreWithin (size xs) p) → AreWithin (size (x ∷ xs)) q
+char_within : (x : ℕ) (xs : List ℕ) (o : Option Quoted) (q : Quoted) → with_char x o ≡ Some q → ((p : Quoted) → o ≡ Some p → AreWithin (size xs) p) →
+    AreWithin (size (x ∷ xs)) q
 char_within x xs None q e more = absurd cc
 char_within x xs (Some p) q e more =
     let same : ◌≡◌ {A = Quoted} (record { body = x ∷ p.body; rest = p.rest }) q = cc in
@@ -103,11 +104,13 @@ quoted_within k (c ∷ []) le q e = by_quote (c == 34) refl
 quoted_within zero (c ∷ d ∷ cs) le q e = absurd (omega arith)
 quoted_within (suc k) (c ∷ d ∷ cs) le q e = by_quote (quoted_within k) (c == 34) refl
   where
-    by_escape : ((ds : List ℕ) → length ds ≤ k → (p : Quoted) → quoted ds ≡ Some p → AreWithin (size ds) p) → (c == 34) ≡ false → (b : Bool) → ((c == 92) && is_escaped d) ≡ b → AreWithin (size (c ∷ d ∷ cs)) q
+    by_escape : ((ds : List ℕ) → length ds ≤ k → (p : Quoted) → quoted ds ≡ Some p → AreWithin (size ds) p) → (c == 34) ≡ false → (b : Bool) →
+        ((c == 92) && is_escaped d) ≡ b → AreWithin (size (c ∷ d ∷ cs)) q
     by_escape more plain true is = wider (size (d ∷ cs)) (size (c ∷ d ∷ cs)) q (size_tail c (d ∷ cs)) (char_within d cs (quoted cs) q (rw (plain, is) at e) (more cs (omega arith)))
     by_escape more plain false is = char_within c (d ∷ cs) (quoted (d ∷ cs)) q (rw (plain, is) at e) (more (d ∷ cs) (omega arith))
 
-    by_quote : ((ds : List ℕ) → length ds ≤ k → (p : Quoted) → quoted ds ≡ Some p → AreWithin (size ds) p) → (b : Bool) → (c == 34) ≡ b → AreWithin (size (c ∷ d ∷ cs)) q
+    by_quote : ((ds : List ℕ) → length ds ≤ k → (p : Quoted) → quoted ds ≡ Some p → AreWithin (size ds) p) → (b : Bool) → (c == 34) ≡ b →
+        AreWithin (size (c ∷ d ∷ cs)) q
     by_quote more true is = let f = rw is at e in let same : ◌≡◌ {A = Quoted} (record { body = []; rest = d ∷ cs }) q = cc in
         subst (λ (r : Quoted). AreWithin (size (c ∷ d ∷ cs)) r) same (omega arith, size_tail c (d ∷ cs))
     by_quote more false is = by_escape more is ((c == 92) && is_escaped d) refl
@@ -173,7 +176,8 @@ next_short most c cs n h e = by_digit (is_digit c) refl
     by_digit true is = let f = rw is at e in let same : number_token (c ∷ cs) ≡ n = cc in subst (λ (r : Next). IsWithin most r) same (number_short most (c ∷ cs) h)
     by_digit false is = by_quote is (c == 34) refl
 
-with_token_some : (t : Token) (o : Option (List Token)) (ts : List Token) → with_token t o ≡ Some ts → (us : List Token) × (o ≡ Some us) × (t ∷ us ≡ ts)
+with_token_some : (t : Token) (o : Option (List Token)) (ts : List Token) → with_token t o ≡ Some ts →
+    (us : List Token) × (o ≡ Some us) × (t ∷ us ≡ ts)
 with_token_some t None ts e = absurd cc
 with_token_some t (Some us) ts e = (us, refl, cc)
 
@@ -182,7 +186,8 @@ unfolding tokens
 tokens_short most zero cs ts h e = absurd cc
 tokens_short most (suc k) cs ts h e = by_start (tokens_short most k) (past is_blank cs) refl e
   where
-    by_start : ((ds : List ℕ) (us : List Token) → size ds ≤ most → tokens k ds ≡ Some us → Each (IsShort most) us) → (start : List ℕ) → past is_blank cs ≡ start → tokens_at (tokens k) start ≡ Some ts → Each (IsShort most) ts
+    by_start : ((ds : List ℕ) (us : List Token) → size ds ≤ most → tokens k ds ≡ Some us → Each (IsShort most) us) → (start : List ℕ) →
+        past is_blank cs ≡ start → tokens_at (tokens k) start ≡ Some ts → Each (IsShort most) ts
     by_start more [] at f = let same : ◌≡◌ {A = List Token} [] ts = cc in subst (Each (IsShort most)) same tt
     by_start more (c ∷ ds) at f =
         let n = bind_some (next_token (c ∷ ds)) _ ts f in

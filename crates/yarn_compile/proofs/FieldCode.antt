@@ -11,6 +11,7 @@ use Rattle.yarn_tree.specs.Trees.{NodeTree}
 use Rattle.yarn_code.specs.declared.program.Instr.{Instr}
 use Rattle.yarn_code.specs.declared.program.Instr.TheVariants as code
 use Rattle.yarn_code.specs.declared.program.Coded.{Coded}
+use Rattle.yarn_code.specs.Parts.{coded}
 use Rattle.yarn_code.specs.Fields.{HasOperands}
 use Rattle.yarn_meaning.specs.Does.{group_line}
 use Rattle.yarn_compile.specs.Code.{Terms, expr_code, exprs_code, condition_code, exit_code, stop_code, end_code, store_code, set_code, simple_code, size, size_all, heads_size, bodies_size, clauses_size, last_size, ask_size, head_code, heads_code, ask_code, stmt_code, stmts_code, bodies_code, clauses_code, last_code, body_code}
@@ -48,9 +49,12 @@ module _ (terms : Terms) where
   simple_fine title (simple.Command text) h is = then_fine (exprs_code terms text.line text.holes) _ (exprs_fine text.line text.holes h) (is, tt)
   simple_fine title (simple.Set head name op e) h is = then_fine (set_code terms head.line name op e) _ (set_fine head.line name op e h.1) (tt, (tt, tt))
   simple_fine title (simple.Declare head name v kind) h is = tt
-  simple_fine title (simple.Jump head to) h is = then_fine (exit_code terms title head.line) _ (exit_fine title head.line) (h, (tt, tt))
+  simple_fine title (simple.Jump head to) h is =
+      then_fine (exit_code terms title head.line) (coded head.line (code.PushString to) ∷ coded head.line code.RunNode ∷ [])
+      (exit_fine title head.line) (h, (tt, tt))
   simple_fine title (simple.JumpTo head e) h is =
-      then_fine (expr_code terms head.line e) _ (h.codes terms head.line) (then_fine (exit_code terms title head.line) _ (exit_fine title head.line) (tt, tt))
+      then_fine (expr_code terms head.line e) (exit_code terms title head.line ++ coded head.line code.RunNode ∷ []) (h.codes terms head.line)
+      (then_fine (exit_code terms title head.line) (coded head.line code.RunNode ∷ []) (exit_fine title head.line) (tt, tt))
   simple_fine title (simple.Stop head) h is = stop_fine title head.line
   simple_fine title (simple.Call head e) h is = then_fine (expr_code terms head.line e) _ (h.codes terms head.line) (tt, tt)
 

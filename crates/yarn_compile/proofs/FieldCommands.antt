@@ -91,7 +91,8 @@ word_short name h = h.0
 between : (piece : List ℕ) → AreChars (123 ∷ (piece ++ 125 ∷ [])) → AreChars piece
 between piece h = (chars_parts piece (125 ∷ []) (chars_parts (123 ∷ []) (piece ++ 125 ∷ []) h).1).0
 
-set_fine : (cs : List ℕ) (ts : List Token) (name : List ℕ) (o : Option BinaryOp) (e : Expr) → AreChars cs → IsSet cs ts name o e → FineCommand (command.Set name o e)
+set_fine : (cs : List ℕ) (ts : List Token) (name : List ℕ) (o : Option BinaryOp) (e : Expr) → AreChars cs → IsSet cs ts name o e →
+    FineCommand (command.Set name o e)
 set_fine cs ts name o e own h =
     let assigned = assigned_fine cs name h.piece o own h.assigned in
     (assigned.0, expression_fine assigned.1 h.expression)

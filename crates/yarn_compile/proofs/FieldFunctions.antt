@@ -20,7 +20,8 @@ use Rattle.yarn_compile.specs.Code.{Terms, with_signature, with_called, with_fun
 use Rattle.yarn_compile.proofs.Parts.{Each, each_append}
 
 -- a property of signatures that the first of a name has
-signature_has : (P : Signature → Type 0) (signatures : List Signature) (name : List ℕ) (s : Signature) → Each P signatures → signature_named signatures name ≡ Some s → P s
+signature_has : (P : Signature → Type 0) (signatures : List Signature) (name : List ℕ) (s : Signature) → Each P signatures →
+    signature_named signatures name ≡ Some s → P s
 signature_has P [] name s h e = absurd cc
 signature_has P (one ∷ more) name s h e = by_name (pointwise nat_eq one.name name) e (signature_has P more name s h.1)
   where
@@ -42,17 +43,20 @@ not_named (one ∷ known) name e = by_name (pointwise nat_eq one.name name) refl
     by_name true is f g = absurd cc
     by_name false is f g = (λ same. false≢true (sym is ∙ (bytes_eq-Decides one.name name).1 same), g f)
 
-new_behind : (name : List ℕ) (known : List Signature) (one : Signature) → IsNew name (function_names known) → (name ≡ one.name → ⊥) → IsNew name (function_names (known ++ one ∷ []))
+new_behind : (name : List ℕ) (known : List Signature) (one : Signature) → IsNew name (function_names known) → (name ≡ one.name → ⊥) →
+    IsNew name (function_names (known ++ one ∷ []))
 new_behind name [] one h g = All-cons (λ other. name ≡ other → ⊥) one.name [] g (All-nil (λ other. name ≡ other → ⊥))
 new_behind name (s ∷ known) one h g = All-cons (λ other. name ≡ other → ⊥) s.name (function_names (known ++ one ∷ [])) (All-head (λ other. name ≡ other → ⊥) s.name (function_names known) h)
     (new_behind name known one (All-tail (λ other. name ≡ other → ⊥) s.name (function_names known) h) g)
 
-differ_behind : (known : List Signature) (one : Signature) → AreUnique (function_names known) → Each (λ (s : Signature). s.name ≡ one.name → ⊥) known → AreUnique (function_names (known ++ one ∷ []))
+differ_behind : (known : List Signature) (one : Signature) → AreUnique (function_names known) →
+    Each (λ (s : Signature). s.name ≡ one.name → ⊥) known → AreUnique (function_names (known ++ one ∷ []))
 differ_behind [] one h g = (All-nil (λ other. one.name ≡ other → ⊥), tt)
 differ_behind (s ∷ known) one h g = (new_behind s.name known one h.0 g.0, differ_behind known one h.1 g.1)
 
 module _ (terms : Terms) (proper : Each IsFunctionField terms.signatures) where
-  signature_kept : (known : List Signature) (name : List ℕ) (o : Option Signature) → signature_named terms.signatures name ≡ o → AreFields known → AreFields (with_signature terms known o)
+  signature_kept : (known : List Signature) (name : List ℕ) (o : Option Signature) → signature_named terms.signatures name ≡ o → AreFields known →
+      AreFields (with_signature terms known o)
   signature_kept known name None is h = h
   signature_kept known name (Some one) is h = by_known (signature_named known one.name) refl
     where
@@ -92,15 +96,18 @@ one_small false = omega arith
 row_small : (row : Row) → row_arity row ≤ 2
 row_small row = omega (arith, one_small (is_some row.first), one_small (is_some row.second))
 
-declared_small : (signatures : List Signature) (name : List ℕ) (count : ℕ) → Each IsFunctionField signatures → declared_arity signatures name ≡ Some count → count ≤ 16
+declared_small : (signatures : List Signature) (name : List ℕ) (count : ℕ) → Each IsFunctionField signatures →
+    declared_arity signatures name ≡ Some count → count ≤ 16
 declared_small [] name count h e = absurd cc
 declared_small (s ∷ signatures) name count h e = by_name (bytes_eq s.name name) e (declared_small signatures name count h.1)
   where
-    by_name : (b : Bool) → (if b then Some (length s.params) else declared_arity signatures name) ≡ Some count → (declared_arity signatures name ≡ Some count → count ≤ 16) → count ≤ 16
+    by_name : (b : Bool) → (if b then Some (length s.params) else declared_arity signatures name) ≡ Some count →
+        (declared_arity signatures name ≡ Some count → count ≤ 16) → count ≤ 16
     by_name true f g = let same : length s.params ≡ count = cc in omega (arith, same, h.0.few)
     by_name false f g = g f
 
-arity_small : (signatures : List Signature) (name : List ℕ) (count : ℕ) → Each IsFunctionField signatures → arity_of signatures name ≡ Some count → count ≤ 16
+arity_small : (signatures : List Signature) (name : List ℕ) (count : ℕ) → Each IsFunctionField signatures → arity_of signatures name ≡ Some count →
+    count ≤ 16
 unfolding arity_of
 arity_small signatures name count h e = by_row (row_named builtin_rows name) e
   where
@@ -122,5 +129,6 @@ each_at : {A : Type 0} (P : A → Type 0) (xs : List A) → ((place : ℕ) (x : 
 each_at P [] f = tt
 each_at P (x ∷ xs) f = (f zero x refl, each_at P xs (λ place y e. f (suc place) y e))
 
-pub short_calls : (p : Program) → Each IsFunctionField p.functions → (n : CodeNode) → IsValidNode p n → Each (λ (c : Coded). IsShortCall c.instr) n.code
+pub short_calls : (p : Program) → Each IsFunctionField p.functions → (n : CodeNode) → IsValidNode p n →
+    Each (λ (c : Coded). IsShortCall c.instr) n.code
 short_calls p h n valid = each_at (λ (c : Coded). IsShortCall c.instr) n.code (λ place c e. short_call p n place c.instr h (valid.fine place c e))

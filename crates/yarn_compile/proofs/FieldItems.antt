@@ -60,7 +60,8 @@ record IsRest (rest : List ℕ) : Type 0 where
 moved : (front rest : List ℕ) (c : ℕ) → IsUtf8 (front ++ c ∷ rest) → IsUtf8 ((front ++ c ∷ []) ++ rest)
 moved front rest c h = subst IsUtf8 (sym (append_assoc front (c ∷ []) rest)) h
 
-pieces_fine : {bytes rest : List ℕ} {pieces : List Piece} → Pieces bytes pieces rest → (front : List ℕ) → IsUtf8 (front ++ bytes) → length bytes ≤ 65536 →
+pieces_fine : {bytes rest : List ℕ} {pieces : List Piece} → Pieces bytes pieces rest → (front : List ℕ) → IsUtf8 (front ++ bytes) →
+    length bytes ≤ 65536 →
     Each FinePiece pieces × IsRest rest
 pieces_fine no_piece front utf8 short = (tt, record { front = front; utf8 = utf8; short = short })
 pieces_fine (pair {c = c} {bytes = bytes} is later) front utf8 short =
@@ -74,7 +75,8 @@ pieces_fine (char {c = c} {bytes = bytes} is plain later) front utf8 short =
     let more = pieces_fine later (front ++ c ∷ []) (moved front bytes c utf8) (omega (arith, short)) in
     ((tt, more.0), more.1)
 
-game_fine : {bytes : List ℕ} {pieces : List Piece} → GamePieces bytes pieces → (front : List ℕ) → IsUtf8 (front ++ bytes) → length bytes ≤ 65536 → Each FinePiece pieces
+game_fine : {bytes : List ℕ} {pieces : List Piece} → GamePieces bytes pieces → (front : List ℕ) → IsUtf8 (front ++ bytes) → length bytes ≤ 65536 →
+    Each FinePiece pieces
 game_fine game.no_piece front utf8 short = tt
 game_fine game.last front utf8 short = (tt, tt)
 game_fine (game.pair {c = c} {bytes = bytes} later) front utf8 short =
@@ -208,21 +210,24 @@ text_fine piece h = trimmed_fine (without_cr piece) (without_cr_fine piece h)
 abbrev FineLine : RawLine → Type 0
 FineLine line = IsFine line.text
 
-line_fine : (number at : ℕ) (piece : List ℕ) (lines : List RawLine) → IsFine piece → Each FineLine lines → Each FineLine (with_line number at piece lines)
+line_fine : (number at : ℕ) (piece : List ℕ) (lines : List RawLine) → IsFine piece → Each FineLine lines →
+    Each FineLine (with_line number at piece lines)
 line_fine number at piece lines h more = by_test (counts (text_of piece)) refl
   where
     by_test : (t : Bool) → counts (text_of piece) ≡ t → Each FineLine (with_line number at piece lines)
     by_test true t = rw t (text_fine piece h, more)
     by_test false t = rw t more
 
-lines_fine : (number at : ℕ) (pieces : List (List ℕ)) → All IsUtf8 pieces → All (λ piece. length piece ≤ 65536) pieces → Each FineLine (lines_from number at pieces)
+lines_fine : (number at : ℕ) (pieces : List (List ℕ)) → All IsUtf8 pieces → All (λ piece. length piece ≤ 65536) pieces →
+    Each FineLine (lines_from number at pieces)
 lines_fine number at [] utf8 short = tt
 lines_fine number at (piece ∷ pieces) utf8 short =
     line_fine number at piece (lines_from (number + 1) (at + length piece + 1) pieces)
     (record { utf8 = All-head IsUtf8 piece pieces utf8; short = All-head (λ (p : List ℕ). length p ≤ 65536) piece pieces short })
     (lines_fine (number + 1) (at + length piece + 1) pieces (All-tail IsUtf8 piece pieces utf8) (All-tail (λ (p : List ℕ). length p ≤ 65536) piece pieces short))
 
-items_from_lines : (mode : Mode) (lines : List RawLine) (items : List ItemAt) → IsItems mode lines items → Each FineLine lines → Each (λ (x : ItemAt). FineItem x.item) items
+items_from_lines : (mode : Mode) (lines : List RawLine) (items : List ItemAt) → IsItems mode lines items → Each FineLine lines →
+    Each (λ (x : ItemAt). FineItem x.item) items
 items_from_lines mode [] [] is h = tt
 items_from_lines mode [] (x ∷ items) is h = absurd is
 items_from_lines mode (line ∷ lines) [] is h = absurd is
@@ -230,5 +235,6 @@ items_from_lines mode (line ∷ lines) (x ∷ items) is h =
     (item_fine mode line.text is.2.0 x.item is.2.1.1 h.0, items_from_lines (next_mode mode x.item) lines items is.3 h.1)
 
 -- the items of a readable file are fine
-pub items_fine : (bytes : List ℕ) (items : List ItemAt) → IsReadable bytes → IsItems InHeaders (lines_of bytes).lines items → Each (λ (x : ItemAt). FineItem x.item) items
+pub items_fine : (bytes : List ℕ) (items : List ItemAt) → IsReadable bytes → IsItems InHeaders (lines_of bytes).lines items →
+    Each (λ (x : ItemAt). FineItem x.item) items
 items_fine bytes items readable is = items_from_lines InHeaders (lines_of bytes).lines items is (lines_fine 1 _ (pieces_in bytes) readable.0 readable.1)

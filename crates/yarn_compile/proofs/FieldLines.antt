@@ -89,7 +89,8 @@ module _ (P : LineText → Type 0) where
       (in_nodes f.nodes (each_front P (said_in_nodes f.nodes) (said_in_files fs) h), in_files fs (each_back P (said_in_nodes f.nodes) (said_in_files fs) h))
 
 -- each line has an id
-pub ids_some : (sources : List SourceFile) (files : List FileLines) → AllHaveLines sources files → EachNode (λ n. Each HasId (said_in n.body)) (map grown files)
+pub ids_some : (sources : List SourceFile) (files : List FileLines) → AllHaveLines sources files →
+    EachNode (λ n. Each HasId (said_in n.body)) (map grown files)
 ids_some sources files have = in_files HasId (map grown files) (part_has HasId (files-part files) (files_ids sources files have))
 
 -- ---- templates
@@ -147,7 +148,8 @@ module _ (p : Program) where
 
 -- ---- ids differ
 
-new_row : (id : List ℕ) (rows : List BaseLine) (texts : List LineText) → AreRows rows texts → (IsAmong (text_ids texts) id → ⊥) → IsNew id (ids_of rows)
+new_row : (id : List ℕ) (rows : List BaseLine) (texts : List LineText) → AreRows rows texts → (IsAmong (text_ids texts) id → ⊥) →
+    IsNew id (ids_of rows)
 new_row id [] [] are new = All-nil (λ other. id ≡ other → ⊥)
 new_row id [] (text ∷ texts) are new = absurd are
 new_row id (row ∷ rows) [] are new = absurd are

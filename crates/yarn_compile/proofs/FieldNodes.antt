@@ -74,7 +74,8 @@ title_is : (hs : List Header) (value : List ℕ) → titles_among hs ≡ value �
 title_is [] value e = absurd cc
 title_is (h ∷ hs) value e = by_test (bytes_eq h.key (codes "title")) e (title_is hs value)
   where
-    by_test : (b : Bool) → (if b then h.value ∷ titles_among hs else titles_among hs) ≡ value ∷ [] → (titles_among hs ≡ value ∷ [] → title_in hs ≡ value) →
+    by_test : (b : Bool) → (if b then h.value ∷ titles_among hs else titles_among hs) ≡ value ∷ [] →
+        (titles_among hs ≡ value ∷ [] → title_in hs ≡ value) →
         (if b then h.value else title_in hs) ≡ value
     by_test true f g = cc
     by_test false f g = g f
@@ -87,7 +88,8 @@ nodes_titled : {items : List ItemAt} {nodes : List NodeLines} → AreNodes HasId
 nodes_titled no_node = tt
 nodes_titled (first_node is more) = (is.title, nodes_titled more)
 
-files_titled : (sources : List SourceFile) (files : List FileLines) → AllHaveLines sources files → Each (λ (f : FileLines). Each IsTitled f.nodes) files
+files_titled : (sources : List SourceFile) (files : List FileLines) → AllHaveLines sources files →
+    Each (λ (f : FileLines). Each IsTitled f.nodes) files
 files_titled [] [] have = tt
 files_titled [] (file ∷ files) have = absurd have
 files_titled (source ∷ sources) [] have = absurd have

@@ -123,7 +123,8 @@ files_named file (f ∷ files) h = each_append NamedUnit (nodes_units file f.nod
 abbrev NamedHere : Appearance → Type 0
 NamedHere a = IsVariableName a.name
 
-put_named : (known : List Appearance) (one : Appearance) (there : Bool) → Each NamedHere known → NamedHere one → Each NamedHere (if there then known else known ++ one ∷ [])
+put_named : (known : List Appearance) (one : Appearance) (there : Bool) → Each NamedHere known → NamedHere one →
+    Each NamedHere (if there then known else known ++ one ∷ [])
 put_named known one true h g = h
 put_named known one false h g = each_append NamedHere known (one ∷ []) h (g, tt)
 
@@ -156,12 +157,14 @@ abbrev rest_of : List (List ℕ) → List (List ℕ)
 rest_of [] = []
 rest_of (n ∷ ns) = ns
 
-entries_from : (entries : List TypedName) (xs : List Appearance) → names_in_entries entries ≡ map (λ a. a.name) xs → Each NamedHere xs → Each NamedEntry entries
+entries_from : (entries : List TypedName) (xs : List Appearance) → names_in_entries entries ≡ map (λ a. a.name) xs → Each NamedHere xs →
+    Each NamedEntry entries
 entries_from [] xs e h = tt
 entries_from (entry ∷ entries) [] e h = absurd cc
 entries_from (entry ∷ entries) (a ∷ xs) e h = (subst IsVariableName (sym (ap first_of e)) h.0, entries_from entries xs (ap rest_of e) h.1)
 
-entries_named : (signatures : List Signature) (files : List FileTree) (entries : List TypedName) → kinding_of signatures (units_of files) ≡ Typed entries →
+entries_named : (signatures : List Signature) (files : List FileTree) (entries : List TypedName) →
+    kinding_of signatures (units_of files) ≡ Typed entries →
     EachNode (λ n. FineAll n.body) files → Each NamedEntry entries
 entries_named signatures files entries typed h =
     let is = found signatures (units_of files) entries typed in
@@ -321,7 +324,8 @@ all_counts_fields : (fs : List FileTree) → EachNode (λ n. IsName n.title) fs 
 all_counts_fields [] h = tt
 all_counts_fields (f ∷ fs) h = each_append PairField (counts_in f.nodes) (counts_of fs) (counts_fields f.nodes h.0) (all_counts_fields fs h.1)
 
-typed_fields : (declared : Pairs) (entries : List TypedName) → Each FitsPair declared → Each NamedEntry entries → Each PairField (typed_pairs declared entries)
+typed_fields : (declared : Pairs) (entries : List TypedName) → Each FitsPair declared → Each NamedEntry entries →
+    Each PairField (typed_pairs declared entries)
 typed_fields declared [] h g = tt
 typed_fields declared (entry ∷ entries) h g = ((g.0, first_fitting declared entry h), typed_fields declared entries h g.1)
 
@@ -330,7 +334,8 @@ for_fields terms [] h = tt
 for_fields terms (p ∷ ps) h = (record { named = h.0.0; fits = h.0.1 }, for_fields terms ps h.1)
 
 -- the variables of code are fields
-pub variables_fields : (terms : Terms) (signatures : List Signature) (files : List FileTree) (entries : List TypedName) → kinding_of signatures (units_of files) ≡ Typed entries →
+pub variables_fields : (terms : Terms) (signatures : List Signature) (files : List FileTree) (entries : List TypedName) →
+    kinding_of signatures (units_of files) ≡ Typed entries →
     EachNode (λ n. FineAll n.body) files → EachNode (λ n. IsName n.title) files → Each IsVariableField (variables_for terms (variables_of entries files))
 variables_fields terms signatures files entries typed fine named =
     for_fields terms (variables_of entries files)
@@ -343,7 +348,8 @@ module _ (terms : Terms) where
   abbrev names_for : Pairs → List (List ℕ)
   names_for ps = names_of (variables_for terms ps)
 
-  counts_at : (ns more : List NodeLines) (ps : Pairs) → names_for ps ≡ map count_name (titles more) → names_for (counts_in (map grown_node ns) ++ ps) ≡ map count_name (titles (ns ++ more))
+  counts_at : (ns more : List NodeLines) (ps : Pairs) → names_for ps ≡ map count_name (titles more) →
+      names_for (counts_in (map grown_node ns) ++ ps) ≡ map count_name (titles (ns ++ more))
   counts_at [] more ps e = e
   counts_at (n ∷ ns) more ps e = ap (λ (l : List (List ℕ)). count_name n.title ∷ l) (counts_at ns more ps e)
 
@@ -367,7 +373,8 @@ module _ (terms : Terms) where
   no_count name (x ∷ xs) h =
       All-cons (λ other. name ≡ other → ⊥) (count_name x) (map count_name xs) (λ e. false≢true (sym h ∙ ap is_reserved_name e ∙ count_reserved x)) (no_count name xs h)
 
-  new_typed : (declared ps : Pairs) (name : List ℕ) (entries : List TypedName) → All (λ (other : TypedName). name ≡ other.name → ⊥) entries → IsNew name (names_for ps) →
+  new_typed : (declared ps : Pairs) (name : List ℕ) (entries : List TypedName) → All (λ (other : TypedName). name ≡ other.name → ⊥) entries →
+      IsNew name (names_for ps) →
       IsNew name (names_for (typed_pairs declared entries ++ ps))
   new_typed declared ps name [] h g = g
   new_typed declared ps name (entry ∷ entries) h g =

@@ -33,7 +33,8 @@ use Rattle.yarn_compile.proofs.FieldCode.{code_fine, all_operands}
 use Rattle.yarn_compile.proofs.FieldVariables.{variables_fields, variables_unique}
 
 module _ (terms : Terms) (p : Program) (functions : Each IsFunctionField p.functions) where
-  node_field : (n : Placed) → IsName n.node.title → n.file < length p.files → FineAll n.node.body → AreTexts n.node.body → IsValidNode p (node_code terms n) →
+  node_field : (n : Placed) → IsName n.node.title → n.file < length p.files → FineAll n.node.body → AreTexts n.node.body →
+      IsValidNode p (node_code terms n) →
       IsNodeField p (node_code terms n)
   node_field n named filed fine texts known = record {
     named = named;
