@@ -38,3 +38,14 @@ mod PieceTexts
 mod TextItems
 mod AcceptedTexts
 mod TextRows
+mod FieldFunctions
+mod FieldNodes
+mod FieldLines
+mod FieldCharacters
+mod FieldExpressions
+mod FieldCommands
+mod FieldItems
+mod FieldTrees
+mod FieldCode
+mod FieldVariables
+mod Fields

@@ -3,4 +3,6 @@
 
 mod laws;
 
-pub use laws::{code_is_valid, code_means_the_same, counts_rise, operators_have_rows};
+pub use laws::{
+    code_is_valid, code_means_the_same, counts_rise, fields_are_kept, operators_have_rows,
+};
