@@ -214,17 +214,17 @@ module _ (source : SourceFile) where
   abbrev alone : List SourceFile
   alone = source ∷ []
 
-  abbrev to_limits : Chain
+  abbrev pub to_limits : Chain
   to_limits =
       (kind.TooMuch, big_alone source) ∷ (kind.BadUtf8, at_file 0 (bad_in source)) ∷ (kind.LineTooLong, at_file 0 (long_in source))
       ∷ (kind.BadLine, noted_of note.Bad false (source ∷ [])) ∷ (kind.BadStructure, noted_of note.Misplaced false (source ∷ []))
       ∷ (kind.TooDeep, noted_of note.TooDeep false (source ∷ [])) ∷ (kind.TooMany, first_excess (reads_from false 0 (source ∷ [])))
       ∷ (kind.Fraction, noted_of note.Fraction false (source ∷ [])) ∷ (kind.NumberTooLarge, noted_of note.TooLarge false (source ∷ [])) ∷ []
 
-  abbrev file_alone : FileLines
+  abbrev pub file_alone : FileLines
   file_alone = (lines_read false 0 source).file
 
-  the-file_reading : file_reading_of source ≡ chained to_limits file_alone
+  pub the-file_reading : file_reading_of source ≡ chained to_limits file_alone
   unfolding file_reading_of
   the-file_reading = refl
 

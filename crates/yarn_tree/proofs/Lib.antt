@@ -31,3 +31,5 @@ pub mod UsesLemmas
 pub mod VariableLemmas
 pub mod NotableLemmas
 pub mod BareLemmas
+pub mod PieceLemmas
+pub mod AloneLaws

@@ -1,5 +1,5 @@
 -- What is noted of files that stand for their lines: what of these is too deep or too many, and numbers.
-use Rattle.std.proofs.Common.{◌≡◌, ◌↔◌, ◌≤◌, ℕ, List, [], length, Bool, ◌⊎◌, inl, inr, Option, Some, None, All, sym, ap, ◌∙◌, subst}
+use Rattle.std.proofs.Common.{◌≡◌, ◌↔◌, ◌≤◌, ℕ, List, [], length, Bool, ◌⊎◌, inl, inr, Option, Some, None, All, IsUtf8, sym, ap, ◌∙◌, subst}
 use Rattle.std.specs.List.{slice_get}
 use Rattle.yarn_base.specs.declared.Place.{Place}
 use Rattle.yarn_base.specs.declared.SourceFile.{SourceFile}
@@ -12,15 +12,17 @@ use Rattle.yarn_nodes.specs.declared.node.Note.{Note}
 use Rattle.yarn_nodes.specs.declared.node.Note.TheVariants as note
 use Rattle.yarn_nodes.specs.Laws.{HasNoLine, HasFirstLine, NotesFirst, HasManyHoles, HasFraction, HasLarge, IsFirstShown, NotesShown, IsWellTitled}
 use Rattle.yarn_tree.specs.Checks.{noted_in, extra_node, extra_variable, extra_name, variables_in, first_excess}
-use Rattle.yarn_tree.specs.Laws.{nodes_of, ShowsNothing, IsShownAt, IsFirstOf, IsFirstLine, AreFew, names_in, uses_from, begins_from, IsBehind, IsNewBehind, IsTooManyAt, IsEarliest, substitutions, options, nodes, variables}
+use Rattle.yarn_tree.specs.Laws.{HasGoodLines, HasFirstOther, IsFirstOther, IsShort, nodes_of, ShowsNothing, IsShownAt, IsFirstOf, IsFirstLine, AreFew, names_in, uses_from, begins_from, IsBehind, IsNewBehind, IsTooManyAt, IsEarliest, substitutions, options, nodes, variables}
 use Rattle.yarn_tree.specs.Names.{no_name}
-use Rattle.yarn_tree.specs.Places.{first_place, earliest}
+use Rattle.yarn_tree.specs.Places.{first_place, first_line, earliest}
+use Rattle.yarn_tree.specs.Splits.{bad_in, long_in}
 use Rattle.yarn_tree.specs.Uses.{UseAt}
 use Rattle.yarn_tree.proofs.CountLemmas.{extra-get, few-nodes, behind-decides}
 use Rattle.yarn_tree.proofs.EarliestLemmas.{Finds, finds-one, finds-both, finds-same, found-least, earliest-none, none-earliest}
 use Rattle.yarn_tree.proofs.FirstLemmas.{Pairs, pairs-same, pairs-weaker, all-of, Clears, Decides, decides-clears, none-clear, clear-none, first-found, found-first}
 use Rattle.yarn_tree.proofs.KnownLemmas.{nodes-all, all-nodes}
 use Rattle.yarn_tree.proofs.NodeLaws.{NodeLaws}
+use Rattle.yarn_tree.proofs.PieceLemmas.{utf8-decides, short-decides}
 use Rattle.yarn_tree.proofs.SourceLemmas.{reads_from, files_from, noted_line, noted-lines, Stands}
 use Rattle.yarn_tree.proofs.FirstUseLemmas.{uses-reads}
 use Rattle.yarn_tree.proofs.NewNameLemmas.{few-names, new-decides}
@@ -36,6 +38,25 @@ pub record Tells (o : Option Place) (Clear : Type 0) (At : Place → Type 0) : T
 
 pub tells-same : (a b : Option Place) (Clear : Type 0) (At : Place → Type 0) → a ≡ b → Tells b Clear At → Tells a Clear At
 tells-same a b Clear At same tells = subst (λ (o : Option Place). Tells o Clear At) (sym same) tells
+
+-- the first place in order of files
+pub first-tells : (line_in : SourceFile → Option ℕ) (Clear : SourceFile → Type 0) (At : SourceFile → ℕ → Type 0) →
+    ((source : SourceFile) → Decides line_in Clear At source source) → (sources : List SourceFile) →
+    Tells (first_line line_in 0 sources) (All Clear sources) (IsFirstOf Clear At sources)
+first-tells line_in Clear At decides sources =
+    let both = pairs-same (Decides line_in Clear At) (λ source. Unit {0}) (λ source is. decides source) sources (all-of (λ source. Unit {0}) (λ source. tt) sources) in
+    let clears = decides-clears line_in Clear At sources sources both in
+    record {
+      none = (none-clear line_in Clear 0 sources sources clears, clear-none line_in Clear 0 sources sources clears);
+      some = λ place. (first-found line_in Clear At sources sources place both, found-first line_in Clear At sources sources place both);
+    }
+
+-- the first line that is no UTF-8, and the first that is too long
+pub utf8-tells : (sources : List SourceFile) → Tells (first_line bad_in 0 sources) (All (HasGoodLines IsUtf8) sources) (IsFirstOther IsUtf8 sources)
+utf8-tells = first-tells bad_in (HasGoodLines IsUtf8) (HasFirstOther IsUtf8) utf8-decides
+
+pub short-tells : (sources : List SourceFile) → Tells (first_line long_in 0 sources) (All (HasGoodLines IsShort) sources) (IsFirstOther IsShort sources)
+short-tells = first-tells long_in (HasGoodLines IsShort) (HasFirstOther IsShort) short-decides
 
 module _ {B : Type 0} (note : Note) (ids : Bool) (sources : List SourceFile) (ys : List B) (Clear : B → Type 0) (At : B → ℕ → Type 0)
     (decides : Pairs (Decides (noted_line note) Clear At) sources ys) where

@@ -1,5 +1,5 @@
 -- The laws of the places of refusals.
-use Rattle.std.proofs.Common.{◌≡◌, ◌↔◌, List, [], ◌∷◌, ◌++◌, true, false, Bool, Option, Some, All, refl, sym, ap, ◌∙◌, subst}
+use Rattle.std.proofs.Common.{◌≡◌, ◌↔◌, List, [], ◌∷◌, ◌++◌, true, false, Bool, Option, Some, All, IsUtf8, refl, sym, ap, ◌∙◌, subst}
 use Rattle.std.proofs.lemmas.List.Elements.{All-nil, All-cons, All-head, All-tail}
 use Rattle.yarn_base.specs.declared.Place.{Place}
 use Rattle.yarn_base.specs.declared.SourceFile.{SourceFile}
@@ -11,7 +11,7 @@ use Rattle.yarn_nodes.specs.Laws.{lines_read, IsNothing, IsMisplacedIn, HasFract
 use Rattle.yarn_tree.specs.declared.refusal.RefusalKind.{RefusalKind}
 use Rattle.yarn_tree.specs.declared.refusal.RefusalKind.TheVariants as kind
 use Rattle.yarn_tree.specs.Checks.{first_excess, titles_seen, first_use, is_reserved, declarations_in, declarations_seen, is_unknown_title, is_unknown_function, has_wrong_count, ids_of, ids_seen}
-use Rattle.yarn_tree.specs.Laws.{AreLined, AreReadable, AreItems, IsStanding, IsFirstOf, IsFirstLine, IsTooMuchAt, IsShownAt, IsTooManyAt, IsEarliest, IsAgainAt, IsFirstAgainst, IsKnown, AreShallow, AreFewEnough, AreWhole, AreTitledApart, AreUnreserved, AreDeclaredOnce, HaveNodes, HaveFunctions, HaveArguments, nodes_of, titles, uses_from, ids_from}
+use Rattle.yarn_tree.specs.Laws.{AreNotTooMuch, IsFirstOther, AreUtf8, IsShort, AreLined, AreReadable, AreItems, IsStanding, IsFirstOf, IsFirstLine, IsTooMuchAt, IsShownAt, IsTooManyAt, IsEarliest, IsAgainAt, IsFirstAgainst, IsKnown, AreShallow, AreFewEnough, AreWhole, AreTitledApart, AreUnreserved, AreDeclaredOnce, HaveNodes, HaveFunctions, HaveArguments, nodes_of, titles, uses_from, ids_from}
 use Rattle.yarn_tree.specs.Names.{NameAt, no_sight, sees_all}
 use Rattle.yarn_tree.specs.Reading.{Refuses, reading_of}
 use Rattle.yarn_tree.specs.Places.{first_line}
@@ -20,12 +20,13 @@ use Rattle.yarn_tree.specs.Splits.{bad_in, long_in}
 use Rattle.yarn_tree.specs.Uses.{Use, uses_in}
 use Rattle.yarn_tree.proofs.FirstLemmas.{pairs-same, Decides}
 use Rattle.yarn_tree.proofs.LawLemmas.{the-reading}
-use Rattle.yarn_tree.proofs.LimitLemmas.{Tells, noted_of, noted-tells, deep-tells, excess-tells, fractions-tell, large-tell}
+use Rattle.yarn_tree.proofs.LimitLemmas.{Tells, utf8-tells, short-tells, noted_of, noted-tells, deep-tells, excess-tells, fractions-tell, large-tell}
 use Rattle.yarn_tree.proofs.MuchLemmas.{much-at, at-much}
 use Rattle.yarn_tree.proofs.NodeLaws.{NodeLaws}
 use Rattle.yarn_tree.proofs.ReadableLemmas.{CanBeRead}
-use Rattle.yarn_tree.proofs.RefusalLemmas.{Chain, chained, lacks, NonePlaced, told, tell}
+use Rattle.yarn_tree.proofs.RefusalLemmas.{Chain, chained, lacks, NonePlaced, stands-at}
 use Rattle.yarn_tree.proofs.SightLemmas.{no_sight-again, again-no_sight}
+use Rattle.yarn_tree.proofs.SizeLemmas.{not_too_much, none_too_much}
 use Rattle.yarn_tree.proofs.SourceLemmas.{reads_from, noted_line, NothingBad, source-stands, stands-source}
 use Rattle.yarn_tree.proofs.StageLemmas as StageLemmas
 use Rattle.yarn_tree.proofs.StageLemmas.{lines_of_files, titles_known, titles-known, used, noted-none}
@@ -88,20 +89,20 @@ module _ (signatures : List Signature) (s : List SourceFile) where
   abbrev after_lines : Chain
   after_lines = (kind.BadStructure, noted_of note.Misplaced true s) ∷ after_structure
 
+  abbrev after_long : Chain
+  after_long = (kind.BadLine, noted_of note.Bad true s) ∷ after_lines
+
+  abbrev after_bad : Chain
+  after_bad = (kind.LineTooLong, first_line long_in 0 s) ∷ after_long
+
   abbrev after_much : Chain
-  after_much = (kind.BadUtf8, first_line bad_in 0 s) ∷ (kind.LineTooLong, first_line long_in 0 s) ∷ (kind.BadLine, noted_of note.Bad true s) ∷ after_lines
+  after_much = (kind.BadUtf8, first_line bad_in 0 s) ∷ after_bad
 
   -- the kind stands where its place is, after kinds that have none
   pub law : (Rec : Type 0) (At : Place → Type 0) (before : Chain) (kind : RefusalKind) (o : Option Place) (behind : Chain) → lacks kind before ≡ true →
       lacks kind behind ≡ true → reading_of signatures s ≡ chained (before ++ (kind, o) ∷ behind) (lines_of_files s) → (NonePlaced before → Rec) → (Rec → NonePlaced before) →
       (Rec → (place : Place) → (o ≡ Some place) ↔ At place) → (place : Place) → (reading_of signatures s ≡ Refuses kind place) ↔ (Rec × At place)
-  law Rec At before kind o behind lack lack_behind same none back some place = (
-    λ is.
-        let t = told before kind o behind (lines_of_files s) place lack lack_behind (sym same ∙ is) in
-        let rec = none t.0 in
-        (rec, (some rec place).0 t.1),
-    λ is. same ∙ tell before kind o behind (lines_of_files s) place (back is.0) ((some is.0 place).1 is.1),
-  )
+  law = stands-at (reading_of signatures s) (lines_of_files s)
 
   -- the same where files have lines
   pub law-of : (laws : NodeLaws) (Rec : List FileLines → Type 0) (At : List FileLines → Place → Type 0) → ((files : List FileLines) → Rec files → AreLined s files) →
@@ -118,6 +119,18 @@ module _ (signatures : List Signature) (s : List SourceFile) where
       let is = law (Unit {0}) (IsTooMuchAt s) [] kind.TooMuch (too_much 0 0 s) after_much refl refl (the-reading signatures s) (λ none. tt) (λ rec. tt)
       (λ rec at. (much-at s at, at-much s at)) place in
       (λ told. (is.0 told).1, λ at. is.1 (tt, at))
+
+  pub bad_utf8 : (place : Place) → (reading_of signatures s ≡ Refuses kind.BadUtf8 place) ↔ (AreNotTooMuch s × IsFirstOther IsUtf8 s place)
+  bad_utf8 =
+      law (AreNotTooMuch s) (IsFirstOther IsUtf8 s) ((kind.TooMuch, too_much 0 0 s) ∷ []) kind.BadUtf8 (first_line bad_in 0 s) after_bad refl refl
+      (the-reading signatures s) (λ none. not_too_much s none.0) (λ light. (none_too_much s light, tt)) (λ light. (utf8-tells s).some)
+
+  pub line_too_long : (place : Place) → (reading_of signatures s ≡ Refuses kind.LineTooLong place) ↔ (AreUtf8 s × IsFirstOther IsShort s place)
+  line_too_long =
+      law (AreUtf8 s) (IsFirstOther IsShort s) ((kind.TooMuch, too_much 0 0 s) ∷ (kind.BadUtf8, first_line bad_in 0 s) ∷ []) kind.LineTooLong
+      (first_line long_in 0 s) after_long refl refl (the-reading signatures s)
+      (λ none. record { light = not_too_much s none.0; utf8 = (utf8-tells s).none.0 none.1.0 })
+      (λ are. (none_too_much s are.light, ((utf8-tells s).none.1 are.utf8, tt))) (λ are. (short-tells s).some)
 
 module _ (laws : NodeLaws) where
   abbrev Sound : SourceFile → Type 0
@@ -138,11 +151,16 @@ module _ (laws : NodeLaws) where
     some = λ number. laws.placed source number sound.1;
   }
 
+  -- with ids or without, since no note of a place in a body looks at them
+  pub misplaced-from : (ids : Bool) (s : List SourceFile) → All CanBeRead s → All NothingBad s →
+      Tells (noted_of note.Misplaced ids s) (All IsStanding s) (IsFirstOf IsStanding IsMisplacedIn s)
+  misplaced-from ids s readable good =
+      noted-tells note.Misplaced ids s s IsStanding IsMisplacedIn
+      (pairs-same (Decides (noted_line note.Misplaced) IsStanding IsMisplacedIn) Sound misplaced-source s (all-sound s readable good))
+
   misplaced-tells : (s : List SourceFile) → AreItems s → Tells (noted_of note.Misplaced true s) (All IsStanding s) (IsFirstOf IsStanding IsMisplacedIn s)
   misplaced-tells s items =
-      let good = (noted-none note.Bad true s).0 ((StageLemmas.nothing-tells laws s).none.1 items.items) in
-      noted-tells note.Misplaced true s s IsStanding IsMisplacedIn
-      (pairs-same (Decides (noted_line note.Misplaced) IsStanding IsMisplacedIn) Sound misplaced-source s (all-sound s items.read.readable good))
+      misplaced-from true s items.read.readable ((noted-none note.Bad true s).0 ((StageLemmas.nothing-tells laws s).none.1 items.items))
 
   module _ (signatures : List Signature) (s : List SourceFile) where
     abbrev files : List FileLines

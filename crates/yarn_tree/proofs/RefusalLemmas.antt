@@ -1,5 +1,5 @@
 -- What a refusal tells of the places of all kinds, which are looked at one after the other.
-use Rattle.std.proofs.Common.{◌≡◌, ℕ, List, [], ◌∷◌, ◌++◌, Bool, true, false, not, ◌&&◌, nat_eq, Option, Some, None, refl, sym, ap, ◌∙◌}
+use Rattle.std.proofs.Common.{◌≡◌, ◌↔◌, ℕ, List, [], ◌∷◌, ◌++◌, Bool, true, false, not, ◌&&◌, nat_eq, Option, Some, None, refl, sym, ap, ◌∙◌}
 use Rattle.std.proofs.lemmas.Bool.{eq-eqb}
 use Rattle.yarn_base.specs.declared.Place.{Place}
 use Rattle.yarn_tree.specs.declared.refusal.RefusalKind.{RefusalKind}
@@ -55,7 +55,7 @@ past-lack other kind rest is = by_test (nat_eq (number_of other) (number_of kind
     )
 
 module _ {A : Type 0} where
-  avoids : (kind : RefusalKind) (rs : Chain) (x : A) (place : Place) → lacks kind rs ≡ true → chained rs x ≡ Refuses kind place → ⊥
+  pub avoids : (kind : RefusalKind) (rs : Chain) (x : A) (place : Place) → lacks kind rs ≡ true → chained rs x ≡ Refuses kind place → ⊥
   avoids kind [] x place lack is = absurd cc
   avoids kind ((other, None) ∷ rs) x place lack is = avoids kind rs x place (past-lack other kind (lacks kind rs) lack).1 is
   avoids kind ((other, Some at) ∷ rs) x place lack is = (past-lack other kind (lacks kind rs) lack).0 cc
@@ -89,6 +89,18 @@ module _ {A : Type 0} where
   pub none-all : (rs : Chain) (x : A) → NonePlaced rs → chained rs x ≡ Reads x
   none-all [] x none = refl
   none-all (r ∷ rs) x none = ap (λ (p : Option Place). unless r.0 p (chained rs x)) none.0 ∙ none-all rs x none.1
+
+  -- a reading tells the kind where its place is, after kinds that have none
+  pub stands-at : (reading : Reading A) (x : A) (Rec : Type 0) (At : Place → Type 0) (before : Chain) (kind : RefusalKind) (o : Option Place) (behind : Chain) →
+      lacks kind before ≡ true → lacks kind behind ≡ true → reading ≡ chained (before ++ (kind, o) ∷ behind) x → (NonePlaced before → Rec) →
+      (Rec → NonePlaced before) → (Rec → (place : Place) → (o ≡ Some place) ↔ At place) → (place : Place) → (reading ≡ Refuses kind place) ↔ (Rec × At place)
+  stands-at reading x Rec At before kind o behind lack lack_behind same none back some place = (
+    λ is.
+        let t = told before kind o behind x place lack lack_behind (sym same ∙ is) in
+        let rec = none t.0 in
+        (rec, (some rec place).0 t.1),
+    λ is. same ∙ tell before kind o behind x place (back is.0) ((some is.0 place).1 is.1),
+  )
 
 -- one kind more
 

@@ -1,10 +1,10 @@
 -- Laws that tie the reading to what files stand for (docs/language.md, Nodes and Refusals of a project).
-use Rattle.std.specs.Prelude.{◌≡◌, ◌↔◌, ◌≤◌, ℕ, ◌+◌, List, [], ◌∷◌, ◌++◌, length, false, All, None, ⊤, ◌⊎◌, Option}
+use Rattle.std.specs.Prelude.{◌≡◌, ◌↔◌, ◌≤◌, ℕ, ◌+◌, List, [], ◌∷◌, ◌++◌, length, false, All, IsUtf8, None, ⊤, ◌⊎◌, Option}
 use Rattle.std.specs.List.{flat_map}
 use Rattle.yarn_base.specs.declared.Place.{Place}
 use Rattle.yarn_base.specs.declared.SourceFile.{SourceFile}
 use Rattle.yarn_value.specs.declared.signature.Signature.{Signature}
-use Rattle.yarn_lines.specs.Lines.{lines_of}
+use Rattle.yarn_lines.specs.Lines.{lines_of, pieces_in}
 use Rattle.yarn_items.specs.declared.item.Mode.{Mode}
 use Rattle.yarn_items.specs.declared.item.Mode.TheVariants.{InHeaders}
 use Rattle.yarn_blocks.specs.Tree.{Stmts, deep_in, crowd_in}
@@ -15,6 +15,7 @@ use Rattle.yarn_nodes.specs.Entries.{ItemAt}
 use Rattle.yarn_nodes.specs.Ids.{HasIds, HasNoIds}
 use Rattle.yarn_nodes.specs.Lines.{IsReadable, IsItems, HasLines}
 use Rattle.yarn_nodes.specs.Laws.{AreBlocks, HasNoLine, HasFirstLine, IsNothing, HasFraction, HasLarge, HasManyHoles, IsMisplacedIn, IsFirstShown, IsWellTitled, IsBadTitleIn, HasFineTitles, titles_in as header_titles}
+use Rattle.yarn_tree.specs.declared.refusal.RefusalKind.{RefusalKind}
 use Rattle.yarn_tree.specs.declared.refusal.RefusalKind.TheVariants as kind
 use Rattle.yarn_tree.specs.Names.{NameAt}
 use Rattle.yarn_tree.specs.Places.{is_before}
@@ -176,6 +177,43 @@ pub record IsFirstOf {A : Type 0} (Clear : A → Type 0) (At : A → ℕ → Typ
   pub clear_before : All Clear before
   pub number : place.file ≡ length before
   pub at : At file place.line
+
+-- each line of the file, as LFs cut it, is good
+abbrev pub HasGoodLines : (List ℕ → Type 0) → SourceFile → Type 0
+HasGoodLines Good source = All Good (pieces_in source.bytes)
+
+-- the first line that isn't good, as LFs cut the file, has that number
+pub record HasFirstOther (Good : List ℕ → Type 0) (source : SourceFile) (number : ℕ) : Type 0 where
+  pub before : List (List ℕ)
+  pub line : List ℕ
+  pub behind : List (List ℕ)
+  pub cut : pieces_in source.bytes ≡ before ++ line ∷ behind
+  pub good_before : All Good before
+  pub other : Good line → ⊥
+  pub at : number ≡ length before + 1
+
+-- the same in order of files
+abbrev pub IsFirstOther : (List ℕ → Type 0) → List SourceFile → Place → Type 0
+IsFirstOther Good = IsFirstOf (HasGoodLines Good) (HasFirstOther Good)
+
+-- BadUtf8 stands at the first line that is no UTF-8
+abbrev pub BadUtf8IsRight : Type 0
+BadUtf8IsRight = (signatures : List Signature) (sources : List SourceFile) (place : Place) →
+    (reading_of signatures sources ≡ Refuses kind.BadUtf8 place) ↔ (AreNotTooMuch sources × IsFirstOther IsUtf8 sources place)
+
+-- files that aren't too much, each line of which is UTF-8
+pub record AreUtf8 (sources : List SourceFile) : Type 0 where
+  pub light : AreNotTooMuch sources
+  pub utf8 : All (HasGoodLines IsUtf8) sources
+
+-- at most 65,536 bytes
+abbrev pub IsShort : List ℕ → Type 0
+IsShort line = length line ≤ 65536
+
+-- LineTooLong stands at the first line of more than 65,536 bytes
+abbrev pub LineTooLongIsRight : Type 0
+LineTooLongIsRight = (signatures : List Signature) (sources : List SourceFile) (place : Place) →
+    (reading_of signatures sources ≡ Refuses kind.LineTooLong place) ↔ (AreUtf8 sources × IsFirstOther IsShort sources place)
 
 -- the first line of that kind, in order of files and lines
 abbrev pub IsFirstLine : (Mode → List ℕ → Type 0) → List SourceFile → Place → Type 0
@@ -407,3 +445,70 @@ abbrev pub DuplicateLineIdIsRight : Type 0
 DuplicateLineIdIsRight = (signatures : List Signature) (sources : List SourceFile) (place : Place) →
     (reading_of signatures sources ≡ Refuses kind.DuplicateLineId place)
     ↔ ((files : List FileLines) × HaveArguments signatures sources files × IsAgainAt (ids_from 0 files) place)
+
+-- Places of the refusals of a file that is read alone. It is file 0, the only one, and its lines have no ids.
+
+-- a file that isn't too much, each line of which is UTF-8
+pub record IsUtf8Alone (source : SourceFile) : Type 0 where
+  pub light : length source.bytes ≤ 4194304
+  pub utf8 : HasGoodLines IsUtf8 source
+
+-- such a file, no line of which is too long
+pub record IsReadableAlone (source : SourceFile) : Type 0 where
+  pub light : length source.bytes ≤ 4194304
+  pub readable : IsReadable source.bytes
+
+-- such a file, each line of which is an item
+pub record IsOfItemsAlone (source : SourceFile) : Type 0 where
+  pub read : IsReadableAlone source
+  pub items : HasNoLine IsNothing source
+
+-- a file that isn't too much has these lines, whose bodies are blocks
+pub record IsLinedAlone (source : SourceFile) (file : FileLines) : Type 0 where
+  pub light : length source.bytes ≤ 4194304
+  pub has : HasLines HasNoIds source file
+  pub blocks : AreBlocks file
+
+-- such lines, none of which is too deep
+pub record IsShallowAlone (source : SourceFile) (file : FileLines) : Type 0 where
+  pub lined : IsLinedAlone source file
+  pub shallow : ShowsNothing (deep_in 0) (nodes_of (file ∷ []))
+
+-- such lines, with none too many of a kind
+pub record IsFewEnoughAlone (source : SourceFile) (file : FileLines) : Type 0 where
+  pub shallow : IsShallowAlone source file
+  pub holes : HasNoLine HasManyHoles source
+  pub small : ShowsNothing crowd_in (nodes_of (file ∷ []))
+  pub few_nodes : length (nodes_of (file ∷ [])) ≤ 65536
+  pub few_variables : AreFew 65536 (names_in (variables_in (uses_from 0 (file ∷ []))))
+
+-- such lines, without fractions
+pub record IsWholeAlone (source : SourceFile) (file : FileLines) : Type 0 where
+  pub few : IsFewEnoughAlone source file
+  pub fractions : HasNoLine HasFraction source
+
+-- what stands before a kind in the order of refusals, and where the kind stands
+abbrev pub IsRefusedAlone : RefusalKind → SourceFile → Place → Type 0
+IsRefusedAlone kind.TooMuch source place = (length source.bytes ≤ 4194304 → ⊥) × (place ≡ record { file = 0; line = 0 })
+IsRefusedAlone kind.BadUtf8 source place = (length source.bytes ≤ 4194304) × IsFirstOther IsUtf8 (source ∷ []) place
+IsRefusedAlone kind.LineTooLong source place = IsUtf8Alone source × IsFirstOther IsShort (source ∷ []) place
+IsRefusedAlone kind.BadLine source place = IsReadableAlone source × IsFirstLine IsNothing (source ∷ []) place
+IsRefusedAlone kind.BadStructure source place = IsOfItemsAlone source × IsFirstOf IsStanding IsMisplacedIn (source ∷ []) place
+IsRefusedAlone kind.TooDeep source place = (file : FileLines) × IsLinedAlone source file × IsShownAt (deep_in 0) (file ∷ []) place
+IsRefusedAlone kind.TooMany source place = (file : FileLines) × IsShallowAlone source file × IsEarliest (IsTooManyAt (source ∷ []) (file ∷ [])) place
+IsRefusedAlone kind.Fraction source place = (file : FileLines) × IsFewEnoughAlone source file × IsFirstLine HasFraction (source ∷ []) place
+IsRefusedAlone kind.NumberTooLarge source place = (file : FileLines) × IsWholeAlone source file × IsFirstLine HasLarge (source ∷ []) place
+IsRefusedAlone kind.BadTitle source place = ⊥
+IsRefusedAlone kind.DuplicateTitle source place = ⊥
+IsRefusedAlone kind.ReservedName source place = ⊥
+IsRefusedAlone kind.DuplicateDeclare source place = ⊥
+IsRefusedAlone kind.UnknownNode source place = ⊥
+IsRefusedAlone kind.UnknownFunction source place = ⊥
+IsRefusedAlone kind.WrongArguments source place = ⊥
+IsRefusedAlone kind.DuplicateLineId source place = ⊥
+
+-- a file that is read alone is refused by a kind at a place exactly where the kind stands there; the kinds that speak of
+-- titles, names, jumps, calls and ids are never told of it
+abbrev pub FileRefusedExactly : Type 0
+FileRefusedExactly = (source : SourceFile) (kind : RefusalKind) (place : Place) →
+    (file_reading_of source ≡ Refuses kind place) ↔ IsRefusedAlone kind source place

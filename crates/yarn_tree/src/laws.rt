@@ -1,6 +1,6 @@
 //! Laws that tie the reading of files to what they stand for (docs/language.md, Nodes and Refusals of a project).
 //! Each is proved as the contract of a function that does nothing but cite the law of items.
-ghost use Rattle.yarn_tree.specs.Laws.{ReadExactly, FileReadExactly, OneProject, OneFile, TooMuchIsRight, BadLineIsRight, BadStructureIsRight, TooDeepIsRight, TooManyIsRight, FractionIsRight, NumberTooLargeIsRight, BadTitleIsRight, DuplicateTitleIsRight, ReservedNameIsRight, DuplicateDeclareIsRight, UnknownNodeIsRight, UnknownFunctionIsRight, WrongArgumentsIsRight, DuplicateLineIdIsRight};
+ghost use Rattle.yarn_tree.specs.Laws.{ReadExactly, FileReadExactly, OneProject, OneFile, FileRefusedExactly, TooMuchIsRight, BadUtf8IsRight, LineTooLongIsRight, BadLineIsRight, BadStructureIsRight, TooDeepIsRight, TooManyIsRight, FractionIsRight, NumberTooLargeIsRight, BadTitleIsRight, DuplicateTitleIsRight, ReservedNameIsRight, DuplicateDeclareIsRight, UnknownNodeIsRight, UnknownFunctionIsRight, WrongArgumentsIsRight, DuplicateLineIdIsRight};
 
 use yarn_items::items_are_found;
 
@@ -15,6 +15,13 @@ pub fn read_exactly()
 /// A file is read exactly where it isn't too much, it has these lines, and they are within the limits.
 pub fn file_read_exactly()
     ensures { FileReadExactly }
+{
+    items_are_found();
+}
+
+/// A file that is read alone is refused exactly by the first of the kinds that stands somewhere in it, at its first place.
+pub fn file_refused_exactly()
+    ensures { FileRefusedExactly }
 {
     items_are_found();
 }
@@ -36,6 +43,16 @@ pub fn one_file()
 /// `TooMuch` stands exactly at the first file with which files are too much.
 pub fn too_much_is_right()
     ensures { TooMuchIsRight }
+{}
+
+/// `BadUtf8` stands exactly at the first line that isn't UTF-8.
+pub fn bad_utf8_is_right()
+    ensures { BadUtf8IsRight }
+{}
+
+/// `LineTooLong` stands exactly at the first line of more than 65,536 bytes.
+pub fn line_too_long_is_right()
+    ensures { LineTooLongIsRight }
 {}
 
 /// `BadLine` stands exactly at the first line that is no item in its mode.
