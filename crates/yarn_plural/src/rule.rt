@@ -1,6 +1,7 @@
 //! A plural rule as it is read: a category and its condition, a list of lists of relations.
 ghost use Rattle.std.specs.Prelude.{◌≡◌};
-ghost use Rattle.yarn_plural.specs.Category.{is_listed, holds_relation, holds_together, holds_condition};
+ghost use Rattle.std.specs.List.{list_any};
+ghost use Rattle.yarn_plural.specs.Category.{operand_of, reduced, is_listed, holds_relation, holds_together, holds_condition};
 
 use yarn_base::List;
 
@@ -60,8 +61,19 @@ pub struct Rule {
     pub condition: List<List<Relation>>,
 }
 
+impl Operand {
+    fn of(self, absolute: u64) -> u64
+        ensures { result ≡ operand_of self absolute }
+    {
+        match self {
+            Operand::N | Operand::I => absolute,
+            Operand::V | Operand::W | Operand::F | Operand::T | Operand::C | Operand::E => 0,
+        }
+    }
+}
+
 impl Listed {
-    fn lists(self, value: u64) -> bool
+    fn contains(self, value: u64) -> bool
         ensures { result ≡ is_listed value self }
     {
         match self {
@@ -71,3 +83,42 @@ impl Listed {
     }
 }
 
+impl Relation {
+    fn holds(&self, absolute: u64) -> bool
+        ensures { result ≡ holds_relation absolute self.now }
+    {
+        let value = remainder(self.operand.of(absolute), self.modulus);
+        let found = contain(&self.among, value);
+        if self.equal { found } else { !found }
+    }
+}
+
+fn contain(among: &List<Listed>, value: u64) -> bool
+    ensures { result ≡ list_any (is_listed value) among.now }
+{
+    among.as_slice().iter().any(|listed| listed.contains(value))
+}
+
+fn remainder(value: u64, modulus: Option<u64>) -> u64
+    ensures { result ≡ reduced modulus value }
+{
+    match modulus {
+        Some(modulus) if modulus != 0 => value % modulus,
+        _ => value,
+    }
+}
+
+impl Rule {
+    /// Whether the rule's condition holds of the whole number with this absolute value.
+    pub(crate) fn holds(&self, absolute: u64) -> bool
+        ensures { result ≡ holds_condition absolute self.now.condition }
+    {
+        self.condition.as_slice().iter().any(|relations| hold_together(relations, absolute))
+    }
+}
+
+fn hold_together(relations: &List<Relation>, absolute: u64) -> bool
+    ensures { result ≡ holds_together absolute relations.now }
+{
+    relations.as_slice().iter().all(|relation| relation.holds(absolute))
+}
