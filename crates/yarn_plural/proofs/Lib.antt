@@ -1,0 +1,5 @@
+pub mod PieceLemmas
+pub mod EachLemmas
+pub mod LineLemmas
+pub mod ScanLemmas
+pub mod TokenLemmas
