@@ -3,3 +3,4 @@ pub mod EachLemmas
 pub mod LineLemmas
 pub mod ScanLemmas
 pub mod TokenLemmas
+pub mod MeaningLemmas

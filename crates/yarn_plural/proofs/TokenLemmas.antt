@@ -1,5 +1,6 @@
 -- The first token of a text, and all its tokens.
-use Rattle.std.proofs.Common.{◌≡◌, ℕ, suc, ◌+◌, ◌<◌, ◌≤◌, List, [], ◌∷◌, ◌++◌, length, take, drop, get_or, Bool, true, false, ◌&&◌, ◌||◌, nat_eq, nat_lt, nat_le, Option, None, Some, option_map, if◌then◌else◌, refl, sym, ap, ◌∙◌, arith, subst, drop-cons, add-one, append-nil, append_assoc, length-append, ⊤}
+use Rattle.std.proofs.Common.{◌≡◌, ℕ, suc, ◌+◌, ◌<◌, ◌≤◌, List, [], ◌∷◌, ◌++◌, length, take, drop, get_or, Bool, true, false, ◌&&◌, ◌||◌, nat_eq, nat_lt, nat_le, Option, None, Some, option_map, if◌then◌else◌, refl, sym, ap, ◌∙◌, arith, subst, drop-cons, add-one, append-nil, append_assoc, length-append}
+use Rattle.std.specs.Prelude.{⊤}
 use Rattle.std.specs.List.{list_all}
 use Rattle.std.specs.Cmp.Lexicographic.{pointwise}
 use Rattle.std.proofs.lemmas.Bool.{eqb-true}
@@ -245,53 +246,38 @@ sound_two b c s is (d ∷ bytes) = by (nat_eq d c) refl
 sound_one : (b c : ℕ) (s : Sign) (bytes : List ℕ) → sign_text s ≡ c ∷ [] → b ≡ c → IsNext (b ∷ bytes) (token.Sign s) bytes
 sound_one b c s bytes is same = record { part = c ∷ []; parts = ap (λ x. x ∷ bytes) same; is = sym is; behind = tt }
 
+sound_if : (text : List ℕ) (t : Bool) (n m : Option Next) → (t ≡ true → Sound text n) → (t ≡ false → Sound text m) → Sound text (if t then n else m)
+sound_if text true n m f g = f refl
+sound_if text false n m f g = g refl
+
+sound_pair : (b a c : ℕ) (s : Sign) (bytes : List ℕ) → sign_text s ≡ a ∷ c ∷ [] → nat_eq b a ≡ true → Sound (b ∷ bytes) (if_next c s bytes)
+sound_pair b a c s bytes is t = subst (λ x. Sound (x ∷ bytes) (if_next c s bytes)) (sym (eqb-true b a t)) (sound_two a c s is bytes)
+
 sound_sign : (text : List ℕ) → Sound text (sign_next text)
 sound_sign [] = tt
-sound_sign (b ∷ bytes) = colon (nat_eq b 58) refl
-  where
-    to : nat_eq b 58 ≡ false → nat_eq b 37 ≡ false → nat_eq b 61 ≡ false → nat_eq b 33 ≡ false → nat_eq b 44 ≡ false → (t : Bool) → nat_eq b 46 ≡ t → Sound (b ∷ bytes) (sign_next (b ∷ bytes))
-    to f1 f2 f3 f4 f5 true t = rw (f1, f2, f3, f4, f5, t) (subst (λ x. Sound (x ∷ bytes) (if_next 46 sign.To bytes)) (sym (eqb-true b 46 t)) (sound_two 46 46 sign.To refl bytes))
-    to f1 f2 f3 f4 f5 false t = rw (f1, f2, f3, f4, f5, t) tt
+sound_sign (b ∷ bytes) =
+    sound_if (b ∷ bytes) (nat_eq b 58) _ _ (λ t. sound_one b 58 sign.Colon bytes refl (eqb-true b 58 t)) (λ f1.
+    sound_if (b ∷ bytes) (nat_eq b 37) _ _ (λ t. sound_one b 37 sign.Percent bytes refl (eqb-true b 37 t)) (λ f2.
+    sound_if (b ∷ bytes) (nat_eq b 61) _ _ (λ t. sound_one b 61 sign.Equal bytes refl (eqb-true b 61 t)) (λ f3.
+    sound_if (b ∷ bytes) (nat_eq b 33) _ _ (sound_pair b 33 61 sign.Differ bytes refl) (λ f4.
+    sound_if (b ∷ bytes) (nat_eq b 44) _ _ (λ t. sound_one b 44 sign.Comma bytes refl (eqb-true b 44 t)) (λ f5.
+    sound_if (b ∷ bytes) (nat_eq b 46) _ _ (sound_pair b 46 46 sign.To bytes refl) (λ f6. tt))))))
 
-    comma : nat_eq b 58 ≡ false → nat_eq b 37 ≡ false → nat_eq b 61 ≡ false → nat_eq b 33 ≡ false → (t : Bool) → nat_eq b 44 ≡ t → Sound (b ∷ bytes) (sign_next (b ∷ bytes))
-    comma f1 f2 f3 f4 true t = rw (f1, f2, f3, f4, t) (sound_one b 44 sign.Comma bytes refl (eqb-true b 44 t))
-    comma f1 f2 f3 f4 false t = to f1 f2 f3 f4 t (nat_eq b 46) refl
-
-    differ : nat_eq b 58 ≡ false → nat_eq b 37 ≡ false → nat_eq b 61 ≡ false → (t : Bool) → nat_eq b 33 ≡ t → Sound (b ∷ bytes) (sign_next (b ∷ bytes))
-    differ f1 f2 f3 true t = rw (f1, f2, f3, t) (subst (λ x. Sound (x ∷ bytes) (if_next 61 sign.Differ bytes)) (sym (eqb-true b 33 t)) (sound_two 33 61 sign.Differ refl bytes))
-    differ f1 f2 f3 false t = comma f1 f2 f3 t (nat_eq b 44) refl
-
-    equal : nat_eq b 58 ≡ false → nat_eq b 37 ≡ false → (t : Bool) → nat_eq b 61 ≡ t → Sound (b ∷ bytes) (sign_next (b ∷ bytes))
-    equal f1 f2 true t = rw (f1, f2, t) (sound_one b 61 sign.Equal bytes refl (eqb-true b 61 t))
-    equal f1 f2 false t = differ f1 f2 t (nat_eq b 33) refl
-
-    percent : nat_eq b 58 ≡ false → (t : Bool) → nat_eq b 37 ≡ t → Sound (b ∷ bytes) (sign_next (b ∷ bytes))
-    percent f1 true t = rw (f1, t) (sound_one b 37 sign.Percent bytes refl (eqb-true b 37 t))
-    percent f1 false t = equal f1 t (nat_eq b 61) refl
-
-    colon : (t : Bool) → nat_eq b 58 ≡ t → Sound (b ∷ bytes) (sign_next (b ∷ bytes))
-    colon true t = rw t (sound_one b 58 sign.Colon bytes refl (eqb-true b 58 t))
-    colon false t = percent t (nat_eq b 37) refl
+sound_rest : (mark : ℕ) (t : Token) (b : ℕ) (bytes : List ℕ) → nat_eq b mark ≡ true → (IsPart (mark ∷ bytes) t) → MayStandBehind t [] → IsNext (b ∷ bytes) t []
+sound_rest mark t b bytes e is behind = record {
+  part = mark ∷ bytes;
+  parts = ap (λ x. x ∷ bytes) (eqb-true b mark e) ∙ sym (append-nil (mark ∷ bytes));
+  is = is;
+  behind = behind;
+}
 
 sound_next : (text : List ℕ) → Sound text (next_of text)
 sound_next [] = tt
-sound_next (b ∷ bytes) = comment (nat_eq b 35) refl
-  where
-    digit : nat_eq b 35 ≡ false → nat_eq b 64 ≡ false → is_letter b ≡ false → (t : Bool) → is_digit b ≡ t → Sound (b ∷ bytes) (next_of (b ∷ bytes))
-    digit f1 f2 f3 true t = rw (f1, f2, f3, t) (sound_value (b ∷ bytes))
-    digit f1 f2 f3 false t = rw (f1, f2, f3, t) (sound_sign (b ∷ bytes))
-
-    letter : nat_eq b 35 ≡ false → nat_eq b 64 ≡ false → (t : Bool) → is_letter b ≡ t → Sound (b ∷ bytes) (next_of (b ∷ bytes))
-    letter f1 f2 true t = rw (f1, f2, t) (sound_word (b ∷ bytes))
-    letter f1 f2 false t = digit f1 f2 t (is_digit b) refl
-
-    samples : nat_eq b 35 ≡ false → (t : Bool) → nat_eq b 64 ≡ t → Sound (b ∷ bytes) (next_of (b ∷ bytes))
-    samples f1 true t = rw (f1, t) (record { part = b ∷ bytes; parts = sym (append-nil (b ∷ bytes)); is = (bytes, ap (λ x. x ∷ bytes) (eqb-true b 64 t)); behind = refl })
-    samples f1 false t = letter f1 t (is_letter b) refl
-
-    comment : (t : Bool) → nat_eq b 35 ≡ t → Sound (b ∷ bytes) (next_of (b ∷ bytes))
-    comment true t = rw t (record { part = b ∷ bytes; parts = sym (append-nil (b ∷ bytes)); is = (bytes, ap (λ x. x ∷ bytes) (eqb-true b 35 t)); behind = refl })
-    comment false t = samples t (nat_eq b 64) refl
+sound_next (b ∷ bytes) =
+    sound_if (b ∷ bytes) (nat_eq b 35) _ _ (λ t. sound_rest 35 token.Comment b bytes t (bytes, refl) refl) (λ f1.
+    sound_if (b ∷ bytes) (nat_eq b 64) _ _ (λ t. sound_rest 64 token.Samples b bytes t (bytes, refl) refl) (λ f2.
+    sound_if (b ∷ bytes) (is_letter b) _ _ (λ t. sound_word (b ∷ bytes)) (λ f3.
+    sound_if (b ∷ bytes) (is_digit b) _ _ (λ t. sound_value (b ∷ bytes)) (λ f4. sound_sign (b ∷ bytes)))))
 
 pub next_of-only : (text : List ℕ) (t : Token) (rest : List ℕ) → next_of text ≡ Some (t, rest) → IsNext text t rest
 next_of-only text t rest e = subst (Sound text) e (sound_next text)
@@ -359,18 +345,22 @@ IsScanning-step text done rest t behind so_far next = record {
         let same : Some (u, s.0) ≡ Some (t, behind) = sym (next_of-there rest u s.0 s.1) ∙ next in
         let pair : (u, s.0) ≡ (t, behind) = cc in
         let first : u ≡ t = ap (λ (p : Next). p.0) pair in
-        let then : s.0 ≡ behind = ap (λ (p : Next). p.1) pair in
-        (us, is ∙ ap (λ x. done ++ x ∷ us) first ∙ sym (append_assoc done (t ∷ []) us), to_blanks behind us (subst (λ r. Spells r us) then s.2))
+        let behind_is : s.0 ≡ behind = ap (λ (p : Next). p.1) pair in
+        (us, is ∙ ap (λ x. done ++ x ∷ us) first ∙ sym (append_assoc done (t ∷ []) us), to_blanks behind us (subst (λ r. Spells r us) behind_is s.2))
 
 pub IsScanning-end : (text : List ℕ) (done : List Token) (rest : List ℕ) → IsScanning text done rest → rest ≡ [] → Spells text done
 IsScanning-end text done rest so_far none = subst (Spells text) (append-nil done) (so_far.there [] none)
+
+none_some : {A : Type 0} → (o : Option A) (x : A) → o ≡ None → o ≡ Some x → ⊥
+none_some None x n s = absurd cc
+none_some (Some y) x n s = absurd cc
 
 pub IsScanning-none : (text : List ℕ) (done : List Token) (rest : List ℕ) → IsScanning text done rest → ¬ (rest ≡ []) → next_of rest ≡ None → ¬ AreTokens text
 IsScanning-none text done rest so_far some none tokens = let l = so_far.only tokens.0 tokens.1 in step l.0 l.2
   where
     step : (later : List Token) → SpellsFrom rest later → ⊥
     step [] s = some s
-    step (u ∷ us) s = let h : None ≡ Some (u, s.0) = sym none ∙ next_of-there rest u s.0 s.1 in absurd cc
+    step (u ∷ us) s = none_some (next_of rest) (u, s.0) none (next_of-there rest u s.0 s.1)
 
 -- a text is one list of tokens at most
 pub spells_one : (text : List ℕ) (ts us : List Token) → Spells text ts → Spells text us → ts ≡ us
@@ -381,6 +371,6 @@ spells_one text (t ∷ ts) (u ∷ us) s r =
     let same : Some (t, s.0) ≡ Some (u, r.0) = sym (next_of-there (past is_blank text) t s.0 s.1) ∙ next_of-there (past is_blank text) u r.0 r.1 in
     let pair : (t, s.0) ≡ (u, r.0) = cc in
     let first : t ≡ u = ap (λ (p : Next). p.0) pair in
-    let then : s.0 ≡ r.0 = ap (λ (p : Next). p.1) pair in
-    let rest = spells_one r.0 ts us (subst (λ l. Spells l ts) then s.2) r.2 in
+    let behind_is : s.0 ≡ r.0 = ap (λ (p : Next). p.1) pair in
+    let rest = spells_one r.0 ts us (subst (λ l. Spells l ts) behind_is s.2) r.2 in
     (λ j. first j ∷ rest j)
