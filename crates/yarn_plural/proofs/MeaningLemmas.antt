@@ -19,8 +19,13 @@ use Rattle.yarn_plural.specs.declared.token.Word.TheVariants as word
 use Rattle.yarn_plural.specs.declared.token.Sign.TheVariants as sign
 use Rattle.yarn_plural.specs.declared.token.Joint.{Joint}
 use Rattle.yarn_plural.specs.declared.token.Joint.TheVariants as joint
-use Rattle.yarn_plural.specs.Rules.{joined, listed_tokens, modulus_tokens, comparison_token, relation_tokens, and_tokens, condition_tokens, rule_tokens, IsRelation, IsAndCondition, IsCondition, Suits, Means}
-use Rattle.yarn_plural.specs.Steps.{separates, onto, pieces, both, each, listed_of, among_of, with_among, compared_of, relation_of, and_condition_of, condition_of, with_condition, empty_of, rule_of, is_samples, without_samples, line_of_rule, meaning_of}
+use Rattle.std.specs.Prelude.{MatchOption, IsUtf8, IfOk, Result, Ok, Err}
+use Rattle.yarn_base.specs.declared.memory.Memory.{Memory}
+use Rattle.yarn_plural.specs.Lines.{without_end}
+use Rattle.yarn_plural.specs.Tokens.{Spells}
+use Rattle.yarn_plural.proofs.TokenLemmas.{spells_one}
+use Rattle.yarn_plural.specs.Rules.{IsLine, joined, listed_tokens, modulus_tokens, comparison_token, relation_tokens, and_tokens, condition_tokens, rule_tokens, IsRelation, IsAndCondition, IsCondition, Suits, Means}
+use Rattle.yarn_plural.specs.Steps.{separates, onto, pieces, both, each, listed_of, among_of, with_among, compared_of, relation_of, and_condition_of, condition_of, with_condition, empty_of, rule_of, is_samples, without_samples, line_of_rule, meaning_of, IsReadable}
 
 -- ---- pieces and what is joined
 
@@ -275,10 +280,14 @@ compared-only o m (token.Sign sign.Equal ∷ ts) r e = with_among-only o m true 
 compared-only o m (token.Sign sign.Differ ∷ ts) r e = with_among-only o m false ts r e
 compared-only o m _ r e = absurd cc
 
+no_zero : (m : Option ℕ) → m ≡ None → ¬ (m ≡ Some 0)
+no_zero None e z = absurd cc
+no_zero (Some m) e z = absurd cc
+
 plain-only : (o : Operand) (ts : List Token) (r : Relation) → ComparedIs o None ts r → (token.Word (word.Operand o) ∷ ts ≡ relation_tokens r) × IsRelation r
 plain-only o ts r is =
     (rw (is.operand, is.modulus) (ap (λ l. token.Word (word.Operand o) ∷ l) is.tokens),
-    record { among = is.some; modulus = λ e. let h : None {T = ℕ} ≡ Some 0 = sym is.modulus ∙ e in absurd cc })
+    record { among = is.some; modulus = no_zero r.modulus is.modulus })
 
 relation-only : (ts : List Token) (r : Relation) → relation_of ts ≡ Some r → (ts ≡ relation_tokens r) × IsRelation r
 relation-only (token.Word (word.Operand o) ∷ token.Sign sign.Percent ∷ token.Value m ∷ ts) r e = by (nat_eq m 0) refl e
@@ -411,3 +420,37 @@ meaning_of-only (token.Comment ∷ []) l e = let same : line.Ignored ≡ l = cc 
 meaning_of-only (token.Word (word.Form f) ∷ []) l e = let same : line.Begins f ≡ l = cc in subst (Means (token.Word (word.Form f) ∷ [])) same refl
 meaning_of-only (token.Word (word.Category c) ∷ token.Sign sign.Colon ∷ ts) l e = given-only c ts l e
 meaning_of-only _ l e = absurd cc
+
+-- ---- a line
+
+abbrev Found : List ℕ → Option Line → Type 0
+Found bytes found = MatchOption found (¬ IsReadable bytes) (λ l. IsLine bytes l)
+
+-- what is found of a line whose tokens are read
+pub line_found : (bytes text : List ℕ) (ts : List Token) → without_end bytes ≡ Some text → IsUtf8 text → Spells text ts → (found : Option Line) → found ≡ meaning_of ts → Found bytes found
+line_found bytes text ts ended utf8 spelled None e = λ readable. none readable.0 readable.1
+  where
+    none : (l : Line) → IsLine bytes l → ⊥
+    none l is =
+        let texts : Some is.text ≡ Some text = sym is.ended ∙ ended in
+        let same : is.text ≡ text = cc in
+        let tokens = spells_one text is.tokens ts (subst (λ x. Spells x is.tokens) same is.spelled) spelled in
+        let some : meaning_of ts ≡ Some l = ap meaning_of (sym tokens) ∙ meaning_of-there is.tokens l is.meant in
+        let h : None ≡ Some l = e ∙ some in
+        absurd cc
+line_found bytes text ts ended utf8 spelled (Some l) e =
+    record { text = text; ended = ended; utf8 = utf8; tokens = ts; spelled = spelled; meant = meaning_of-only ts l (sym e) }
+
+pub lines_found : (bytes text : List ℕ) (ts : List Token) → without_end bytes ≡ Some text → IsUtf8 text → Spells text ts →
+    (result : Result (Option Line) Memory) → IfOk result (λ found. found ≡ meaning_of ts) → IfOk result (Found bytes)
+lines_found bytes text ts ended utf8 spelled (Ok found) e = line_found bytes text ts ended utf8 spelled found e
+lines_found bytes text ts ended utf8 spelled (Err m) e = e
+
+-- a line is one thing at most
+pub line_is_one : (bytes : List ℕ) (l m : Line) → IsLine bytes l → IsLine bytes m → l ≡ m
+line_is_one bytes l m is also =
+    let texts : Some also.text ≡ Some is.text = sym also.ended ∙ is.ended in
+    let same : also.text ≡ is.text = cc in
+    let tokens = spells_one is.text also.tokens is.tokens (subst (λ x. Spells x also.tokens) same also.spelled) is.spelled in
+    let both_are : Some l ≡ Some m = sym (meaning_of-there is.tokens l is.meant) ∙ ap meaning_of (sym tokens) ∙ meaning_of-there also.tokens m also.meant in
+    cc

@@ -91,3 +91,7 @@ pub record IsLine (bytes : List ℕ) (l : Line) : Type 0 where
   pub tokens : List Token
   pub spelled : Spells text tokens
   pub meant : Means tokens l
+
+-- a line is one thing at most
+abbrev pub LineIsOneThing : Type 0
+LineIsOneThing = (bytes : List ℕ) (l m : Line) → IsLine bytes l → IsLine bytes m → l ≡ m
