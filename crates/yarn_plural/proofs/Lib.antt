@@ -4,3 +4,4 @@ pub mod LineLemmas
 pub mod ScanLemmas
 pub mod TokenLemmas
 pub mod MeaningLemmas
+pub mod ReadingLemmas
