@@ -1,5 +1,5 @@
 -- The first line of some bytes, and what stands last.
-use Rattle.std.proofs.Common.{◌≡◌, ℕ, zero, suc, ◌+◌, ◌-◌, ◌<◌, ◌≤◌, List, [], ◌∷◌, length, take, drop, get_or, Bool, true, false, nat_eq, if◌then◌else◌, refl, sym, ap, arith, add-one, ◌∙◌}
+use Rattle.std.proofs.Common.{◌≡◌, ℕ, zero, suc, ◌+◌, ◌<◌, ◌≤◌, List, [], ◌∷◌, length, take, drop, get_or, Bool, true, false, nat_eq, if◌then◌else◌, refl, sym, ap, arith, add-one, ◌∙◌}
 use Rattle.std.proofs.lemmas.Bool.{eqb-true}
 use Rattle.yarn_plural.specs.declared.token.Token.{Token}
 use Rattle.yarn_plural.specs.Lines.{lines_of, onto, without_last, ends_with}

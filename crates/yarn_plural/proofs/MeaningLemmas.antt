@@ -1,9 +1,7 @@
 -- What tokens mean, against the function that reads them.
-use Rattle.std.proofs.Common.{◌≡◌, ℕ, ◌+◌, ◌<◌, List, [], ◌∷◌, ◌++◌, length, map, Bool, true, false, ◌&&◌, not, nat_eq, Option, None, Some, if◌then◌else◌, refl, sym, ap, ◌∙◌, arith, subst, append-nil, append_assoc, inl, inr, ◌⊎◌, All}
-use Rattle.std.specs.List.{list_all}
+use Rattle.std.proofs.Common.{◌≡◌, ℕ, ◌<◌, List, [], ◌∷◌, ◌++◌, length, map, Bool, true, false, nat_eq, Option, None, Some, if◌then◌else◌, refl, sym, ap, ◌∙◌, arith, subst, inl, inr, ◌⊎◌, All}
 use Rattle.std.proofs.lemmas.Bool.{eqb-true}
 use Rattle.std.proofs.lemmas.List.Elements.{All-nil, All-cons, All-head, All-tail}
-use Rattle.std.proofs.lemmas.Bool.Decides.{nat_tests}
 use Rattle.yarn_plural.specs.declared.rule.Category.{Category}
 use Rattle.yarn_plural.specs.declared.rule.Category.TheVariants as category
 use Rattle.yarn_plural.specs.declared.rule.Operand.{Operand}
@@ -25,7 +23,7 @@ use Rattle.yarn_plural.specs.Lines.{without_end}
 use Rattle.yarn_plural.specs.Tokens.{Spells}
 use Rattle.yarn_plural.proofs.TokenLemmas.{spells_one}
 use Rattle.yarn_plural.specs.Rules.{IsLine, joined, listed_tokens, modulus_tokens, comparison_token, relation_tokens, and_tokens, condition_tokens, rule_tokens, IsRelation, IsAndCondition, IsCondition, Suits, Means}
-use Rattle.yarn_plural.specs.Steps.{separates, onto, pieces, both, each, listed_of, among_of, with_among, compared_of, relation_of, and_condition_of, condition_of, with_condition, empty_of, rule_of, is_samples, without_samples, line_of_rule, meaning_of, IsReadable}
+use Rattle.yarn_plural.specs.Steps.{separates, onto, pieces, both, each, listed_of, among_of, with_among, compared_of, relation_of, and_condition_of, condition_of, with_condition, rule_of, is_samples, without_samples, line_of_rule, meaning_of, IsReadable}
 
 -- ---- pieces and what is joined
 
@@ -208,10 +206,11 @@ comparison-free p spares true = spares.equal
 comparison-free p spares false = spares.differ
 
 relation-free : (p : Token → Bool) → Spares p → (r : Relation) → Free p (relation_tokens r)
-relation-free p spares r =
-    (spares.operand r.operand,
-    free-append p (modulus_tokens r.modulus) (comparison_token r.equal ∷ joined (token.Sign sign.Comma) (map listed_tokens r.among)) (modulus-free p spares r.modulus)
-        (comparison-free p spares r.equal, free-joined p (token.Sign sign.Comma) (map listed_tokens r.among) spares.comma (free-map p listed_tokens (listed-free p spares.value spares.to) r.among)))
+relation-free p spares r = (
+  spares.operand r.operand,
+  free-append p (modulus_tokens r.modulus) (comparison_token r.equal ∷ joined (token.Sign sign.Comma) (map listed_tokens r.among)) (modulus-free p spares r.modulus)
+      (comparison-free p spares r.equal, free-joined p (token.Sign sign.Comma) (map listed_tokens r.among) spares.comma (free-map p listed_tokens (listed-free p spares.value spares.to) r.among)),
+)
 
 and-free : (p : Token → Bool) → Spares p → p (token.Word word.And) ≡ false → (rs : List Relation) → Free p (and_tokens rs)
 and-free p spares other rs = free-joined p (token.Word word.And) (map relation_tokens rs) other (free-map p relation_tokens (relation-free p spares) rs)
@@ -273,7 +272,7 @@ with_among-only o m equal ts r e = by (among_of ts) refl e
         let list = among-only ts ys a in
         let same : record { operand = o; modulus = m; equal = equal; among = ys } ≡ r = cc in
         subst (ComparedIs o m (comparison_token equal ∷ ts)) same
-            (record { operand = refl; modulus = refl; tokens = ap (λ l. comparison_token equal ∷ l) list.tokens; some = list.some })
+        (record { operand = refl; modulus = refl; tokens = ap (λ l. comparison_token equal ∷ l) list.tokens; some = list.some })
 
 compared-only : (o : Operand) (m : Option ℕ) (ts : List Token) (r : Relation) → compared_of o m ts ≡ Some r → ComparedIs o m ts r
 compared-only o m (token.Sign sign.Equal ∷ ts) r e = with_among-only o m true ts r e
@@ -285,9 +284,10 @@ no_zero None e z = absurd cc
 no_zero (Some m) e z = absurd cc
 
 plain-only : (o : Operand) (ts : List Token) (r : Relation) → ComparedIs o None ts r → (token.Word (word.Operand o) ∷ ts ≡ relation_tokens r) × IsRelation r
-plain-only o ts r is =
-    (rw (is.operand, is.modulus) (ap (λ l. token.Word (word.Operand o) ∷ l) is.tokens),
-    record { among = is.some; modulus = no_zero r.modulus is.modulus })
+plain-only o ts r is = (
+  rw (is.operand, is.modulus) (ap (λ l. token.Word (word.Operand o) ∷ l) is.tokens),
+  record { among = is.some; modulus = no_zero r.modulus is.modulus },
+)
 
 relation-only : (ts : List Token) (r : Relation) → relation_of ts ≡ Some r → (ts ≡ relation_tokens r) × IsRelation r
 relation-only (token.Word (word.Operand o) ∷ token.Sign sign.Percent ∷ token.Value m ∷ ts) r e = by (nat_eq m 0) refl e
@@ -296,9 +296,10 @@ relation-only (token.Word (word.Operand o) ∷ token.Sign sign.Percent ∷ token
         (token.Word (word.Operand o) ∷ token.Sign sign.Percent ∷ token.Value m ∷ ts ≡ relation_tokens r) × IsRelation r
     by true t e = absurd cc
     by false t e =
-        let is = compared-only o (Some m) ts r e in
-        (rw (is.operand, is.modulus) (ap (λ l. token.Word (word.Operand o) ∷ token.Sign sign.Percent ∷ token.Value m ∷ l) is.tokens),
-        record { among = is.some; modulus = λ z. not_zero (sym is.modulus ∙ z) })
+        let is = compared-only o (Some m) ts r e in (
+          rw (is.operand, is.modulus) (ap (λ l. token.Word (word.Operand o) ∷ token.Sign sign.Percent ∷ token.Value m ∷ l) is.tokens),
+          record { among = is.some; modulus = λ z. not_zero (sym is.modulus ∙ z) },
+        )
       where
         not_zero : Some m ≡ Some 0 → ⊥
         not_zero z = let same : m ≡ 0 = cc in let h = rw same at t in absurd cc

@@ -1,5 +1,5 @@
 -- What stands between joints, and lists that are joined.
-use Rattle.std.proofs.Common.{◌≡◌, ℕ, suc, ◌+◌, ◌<◌, ◌≤◌, List, [], ◌∷◌, ◌++◌, length, take, drop, get_or, Bool, true, false, refl, sym, ap, ◌∙◌, arith, drop-cons, add-one, take_all}
+use Rattle.std.proofs.Common.{◌≡◌, ℕ, suc, ◌+◌, ◌<◌, ◌≤◌, List, [], ◌∷◌, ◌++◌, length, take, drop, get_or, true, false, refl, sym, ap, ◌∙◌, drop-cons, add-one, take_all}
 use Rattle.std.proofs.lemmas.List.{take_more, drop_all}
 use Rattle.yarn_plural.specs.declared.token.Token.{Token}
 use Rattle.yarn_plural.specs.declared.token.Joint.{Joint}

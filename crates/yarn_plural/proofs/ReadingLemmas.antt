@@ -1,10 +1,9 @@
 -- What the lines of a file give, one by one.
-use Rattle.std.proofs.Common.{◌≡◌, ℕ, ◌+◌, ◌<◌, ◌≤◌, List, [], ◌∷◌, ◌++◌, length, Bool, true, false, ◌&&◌, if◌then◌else◌, Option, None, Some, refl, sym, ap, ◌∙◌, arith, subst, append-nil, append_assoc, length-append}
-use Rattle.std.specs.Prelude.{is_some, Result, Ok, Err}
+use Rattle.std.proofs.Common.{◌≡◌, ℕ, ◌+◌, ◌<◌, ◌≤◌, List, [], ◌∷◌, ◌++◌, length, Bool, true, false, if◌then◌else◌, Option, None, Some, refl, sym, ap, ◌∙◌, arith, subst, append-nil, append_assoc, length-append}
+use Rattle.std.specs.Prelude.{is_some, Ok, Err}
 use Rattle.yarn_plural.specs.declared.rule.Rule.{Rule}
 use Rattle.yarn_plural.specs.declared.table.Form.{Form}
 use Rattle.yarn_plural.specs.declared.table.Form.TheVariants.{Cardinal, Ordinal}
-use Rattle.yarn_plural.specs.declared.table.PluralTable.{PluralTable}
 use Rattle.yarn_plural.specs.declared.line.Line.{Line}
 use Rattle.yarn_plural.specs.declared.line.Line.TheVariants.{Ignored, Begins, Gives}
 use Rattle.yarn_plural.specs.declared.read.Reader.{Reader}
@@ -132,7 +131,7 @@ added-rule ls reader rule number new so_far is (Some form) f e =
     let current : form_after None ls ≡ Some form = sym so_far.form ∙ f in
     let same : after_rule reader form rule number ≡ new = cc in
     let rules : rules_of reader.table form ≡ rules_at (form_after None ls) ls =
-        ap (λ t. rules_of t form) so_far.table ∙ rules_of-given ls form ∙ ap (λ g. rules_at g ls) (sym current) in
+    ap (λ t. rules_of t form) so_far.table ∙ rules_of-given ls form ∙ ap (λ g. rules_at g ls) (sym current) in
     let test = ap (λ rs. first_repeated reader.repeated (has_category rule.category rs) number) rules in
     record {
       may = ap is_some current;
@@ -247,7 +246,7 @@ pub IsReading-misplaced : (bytes : List ℕ) (number : ℕ) (rest : List ℕ) (r
     lines_of rest ≡ line ∷ lines_of after → IsLine line l → after_line reader l number ≡ None → IsBadAt bytes number
 IsReading-misplaced bytes number rest reader line after l so_far cut is e =
     bad_at bytes number rest reader line after so_far cut
-        (λ m also. ap (may_follow so_far.ls) (line_is_one line m l also is) ∙ not_added so_far.ls reader l number so_far.holds e)
+    (λ m also. ap (may_follow so_far.ls) (line_is_one line m l also is) ∙ not_added so_far.ls reader l number so_far.holds e)
 
 all_read : (bytes : List ℕ) (number : ℕ) (rest : List ℕ) (reader : Reader) → (so_far : IsReading bytes number rest reader) → rest ≡ [] → AreRead [] (lines_of bytes) so_far.ls
 all_read bytes number rest reader so_far none =

@@ -1,5 +1,5 @@
 -- The first token of a text, and all its tokens.
-use Rattle.std.proofs.Common.{◌≡◌, ℕ, suc, ◌+◌, ◌<◌, ◌≤◌, List, [], ◌∷◌, ◌++◌, length, take, drop, get_or, Bool, true, false, ◌&&◌, ◌||◌, nat_eq, nat_lt, nat_le, Option, None, Some, option_map, if◌then◌else◌, refl, sym, ap, ◌∙◌, arith, subst, drop-cons, add-one, append-nil, append_assoc, length-append}
+use Rattle.std.proofs.Common.{◌≡◌, ℕ, ◌+◌, ◌<◌, ◌≤◌, List, [], ◌∷◌, ◌++◌, length, drop, get_or, Bool, true, false, ◌&&◌, ◌||◌, nat_eq, nat_lt, nat_le, Option, None, Some, if◌then◌else◌, refl, sym, ap, ◌∙◌, arith, subst, drop-cons, add-one, append-nil, append_assoc, length-append}
 use Rattle.std.specs.Prelude.{⊤}
 use Rattle.std.specs.List.{list_all}
 use Rattle.std.specs.Cmp.Lexicographic.{pointwise}
@@ -16,7 +16,7 @@ use Rattle.yarn_plural.specs.declared.token.Word.TheVariants as word
 use Rattle.yarn_plural.specs.declared.token.Sign.{Sign}
 use Rattle.yarn_plural.specs.declared.token.Sign.TheVariants as sign
 use Rattle.yarn_plural.specs.Tokens.{is_blank, is_letter, is_digit, front, past, begins_run, word_text, sign_text, number_after, IsValue, IsPart, MayStandBehind, IsNext, Spells}
-use Rattle.yarn_plural.specs.Steps.{AreTokens, find_word, word_of, value_of, Next, before, word_next, value_next, if_next, sign_next, next_of}
+use Rattle.yarn_plural.specs.Steps.{AreTokens, find_word, word_of, value_of, Next, word_next, value_next, if_next, sign_next, next_of}
 use Rattle.yarn_plural.proofs.ScanLemmas.{front-all}
 
 -- ---- words

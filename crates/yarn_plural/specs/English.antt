@@ -1,5 +1,5 @@
 -- The default table of plural rules (docs/formats.md, Plural rules).
-use Rattle.std.specs.Prelude.{ℕ, List, [], ◌∷◌, Bool, true, false, Option, Some, None}
+use Rattle.std.specs.Prelude.{ℕ, [], ◌∷◌, Bool, true, false, Option, Some, None}
 use Rattle.yarn_plural.specs.declared.rule.Category.{Category}
 use Rattle.yarn_plural.specs.declared.rule.Category.TheVariants.{One, Two, Few, Other}
 use Rattle.yarn_plural.specs.declared.rule.Operand.{Operand}

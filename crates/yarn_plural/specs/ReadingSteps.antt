@@ -1,5 +1,5 @@
 -- Words of private functions that read a file.
-use Rattle.std.specs.Prelude.{◌≡◌, ℕ, List, [], ◌∷◌, ◌++◌, Bool, true, false, if◌then◌else◌, Option, Some, None}
+use Rattle.std.specs.Prelude.{◌≡◌, ℕ, [], ◌∷◌, ◌++◌, Bool, true, false, if◌then◌else◌, Option, Some, None}
 use Rattle.yarn_plural.specs.declared.rule.Rule.{Rule}
 use Rattle.yarn_plural.specs.declared.table.Form.{Form}
 use Rattle.yarn_plural.specs.declared.table.Form.TheVariants.{Cardinal, Ordinal}

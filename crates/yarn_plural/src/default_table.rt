@@ -14,7 +14,10 @@ pub fn english(alloc: Global) -> Result<PluralTable, Memory>
     let mut cardinal = List::new(alloc);
     let one = relation(alloc, Operand::I, None, true, 1)?;
     let whole = relation(alloc, Operand::V, None, true, 0)?;
-    push(&mut cardinal, rule_of_both(alloc, Category::One, one, whole)?)?;
+    push(
+        &mut cardinal,
+        rule_of_both(alloc, Category::One, one, whole)?,
+    )?;
     push(&mut cardinal, others(alloc))?;
     let mut ordinal = List::new(alloc);
     push(&mut ordinal, rule_of_end(alloc, Category::One, 1, 11)?)?;
@@ -33,7 +36,12 @@ fn rule_of_end(alloc: Global, category: Category, last: u64, but: u64) -> Result
     rule_of_both(alloc, category, first, second)
 }
 
-fn rule_of_both(alloc: Global, category: Category, first: Relation, second: Relation) -> Result<Rule, Memory>
+fn rule_of_both(
+    alloc: Global,
+    category: Category,
+    first: Relation,
+    second: Relation,
+) -> Result<Rule, Memory>
     ensures { IfOk result (λ rule. rule ≡ rule_of_both_of category first second) }
 {
     let mut relations = List::new(alloc);
@@ -41,7 +49,10 @@ fn rule_of_both(alloc: Global, category: Category, first: Relation, second: Rela
     push(&mut relations, second)?;
     let mut condition = List::new(alloc);
     push(&mut condition, relations)?;
-    Ok(Rule { category, condition })
+    Ok(Rule {
+        category,
+        condition,
+    })
 }
 
 fn others(alloc: Global) -> Rule
@@ -53,7 +64,13 @@ fn others(alloc: Global) -> Rule
     }
 }
 
-fn relation(alloc: Global, operand: Operand, modulus: Option<u64>, equal: bool, value: u64) -> Result<Relation, Memory>
+fn relation(
+    alloc: Global,
+    operand: Operand,
+    modulus: Option<u64>,
+    equal: bool,
+    value: u64,
+) -> Result<Relation, Memory>
     ensures { IfOk result (λ relation. relation ≡ relation_of operand modulus equal value) }
 {
     let mut among = List::new(alloc);

@@ -17,3 +17,6 @@ pub use laws::line_is_one_thing;
 pub use read::{PluralFault, read_plural};
 pub use rule::{Category, Listed, Operand, Relation, Rule};
 pub use table::{Form, PluralTable};
+
+#[cfg(test)]
+mod tests;

@@ -44,7 +44,11 @@ fn read_meaning(alloc: Global, tokens: &[Token]) -> Result<Option<Line>, Memory>
     match tokens {
         [] | [Token::Comment] => Ok(Some(Line::Ignored)),
         [Token::Word(Word::Form(form))] => Ok(Some(Line::Begins(*form))),
-        [Token::Word(Word::Category(category)), Token::Sign(Sign::Colon), rest @ ..] => read_given(alloc, *category, rest),
+        [
+            Token::Word(Word::Category(category)),
+            Token::Sign(Sign::Colon),
+            rest @ ..,
+        ] => read_given(alloc, *category, rest),
         _ => Ok(None),
     }
 }

@@ -9,20 +9,30 @@ use std::alloc::Global;
 use yarn_base::{List, Memory};
 
 /// The rule of a category, from the tokens of its condition, and none where they are none.
-pub(crate) fn read_rule(alloc: Global, category: Category, tokens: &[Token]) -> Result<Option<Rule>, Memory>
+pub(crate) fn read_rule(
+    alloc: Global,
+    category: Category,
+    tokens: &[Token],
+) -> Result<Option<Rule>, Memory>
     ensures { IfOk result (λ found. found ≡ rule_of category tokens.now) }
 {
     match category {
         Category::Other if tokens.is_empty() => {
             let condition = List::new(alloc);
-            Ok(Some(Rule { category, condition }))
+            Ok(Some(Rule {
+                category,
+                condition,
+            }))
         }
         Category::Other => Ok(None),
         _ => {
             let Some(condition) = read_condition(alloc, tokens)? else {
                 return Ok(None);
             };
-            Ok(Some(Rule { category, condition }))
+            Ok(Some(Rule {
+                category,
+                condition,
+            }))
         }
     }
 }
@@ -66,16 +76,31 @@ fn read_relation(alloc: Global, tokens: &[Token]) -> Result<Option<Relation>, Me
     ensures { IfOk result (λ found. found ≡ relation_of tokens.now) }
 {
     match tokens {
-        [Token::Word(Word::Operand(_)), Token::Sign(Sign::Percent), Token::Value(0), ..] => Ok(None),
-        [Token::Word(Word::Operand(operand)), Token::Sign(Sign::Percent), Token::Value(modulus), rest @ ..] => {
-            read_comparison(alloc, *operand, Some(*modulus), rest)
-        }
-        [Token::Word(Word::Operand(operand)), rest @ ..] => read_comparison(alloc, *operand, None, rest),
+        [
+            Token::Word(Word::Operand(_)),
+            Token::Sign(Sign::Percent),
+            Token::Value(0),
+            ..
+        ] => Ok(None),
+        [
+            Token::Word(Word::Operand(operand)),
+            Token::Sign(Sign::Percent),
+            Token::Value(modulus),
+            rest @ ..,
+        ] => { read_comparison(alloc, *operand, Some(*modulus), rest) }
+        [Token::Word(Word::Operand(operand)), rest @ ..] => read_comparison(
+            alloc, *operand, None, rest,
+        ),
         _ => Ok(None),
     }
 }
 
-fn read_comparison(alloc: Global, operand: Operand, modulus: Option<u64>, tokens: &[Token]) -> Result<Option<Relation>, Memory>
+fn read_comparison(
+    alloc: Global,
+    operand: Operand,
+    modulus: Option<u64>,
+    tokens: &[Token],
+) -> Result<Option<Relation>, Memory>
     ensures { IfOk result (λ found. found ≡ compared_of operand modulus tokens.now) }
 {
     let (equal, rest) = match tokens {
@@ -86,7 +111,12 @@ fn read_comparison(alloc: Global, operand: Operand, modulus: Option<u64>, tokens
     let Some(among) = read_among(alloc, rest)? else {
         return Ok(None);
     };
-    Ok(Some(Relation { operand, modulus, equal, among }))
+    Ok(Some(Relation {
+        operand,
+        modulus,
+        equal,
+        among,
+    }))
 }
 
 // (value | range) (`,` (value | range))*
@@ -111,7 +141,11 @@ fn read_listed(tokens: &[Token]) -> Option<Listed>
 {
     match tokens {
         [Token::Value(only)] => Some(Listed::Value(*only)),
-        [Token::Value(first), Token::Sign(Sign::To), Token::Value(last)] => Some(Listed::Range(*first, *last)),
+        [
+            Token::Value(first),
+            Token::Sign(Sign::To),
+            Token::Value(last),
+        ] => Some(Listed::Range(*first, *last)),
         _ => None,
     }
 }

@@ -122,7 +122,10 @@ impl Reader {
 fn has_category(rules: &List<Rule>, category: Category) -> bool
     ensures { result ≡ has_category_of category rules.now }
 {
-    rules.as_slice().iter().any(|rule| same_category(rule.category, category))
+    rules
+        .as_slice()
+        .iter()
+        .any(|rule| same_category(rule.category, category))
 }
 
 fn same_category(one: Category, other: Category) -> bool

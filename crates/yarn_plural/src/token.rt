@@ -128,7 +128,9 @@ impl Joint {
         ensures { result ≡ separates_of self token }
     {
         match (self, token) {
-            (Joint::Or, Token::Word(Word::Or)) | (Joint::And, Token::Word(Word::And)) | (Joint::Comma, Token::Sign(Sign::Comma)) => true,
+            (Joint::Or, Token::Word(Word::Or))
+            | (Joint::And, Token::Word(Word::And))
+            | (Joint::Comma, Token::Sign(Sign::Comma)) => true,
             _ => false,
         }
     }

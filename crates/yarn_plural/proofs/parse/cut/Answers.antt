@@ -1,4 +1,4 @@
-use Rattle.std.proofs.Common.{◌≡◌, ◌+◌, ◌-◌, ◌≤◌, ◌∷◌, ◌∙◌, sym, ap, drop, length, take, arith, length-drop}
+use Rattle.std.proofs.Common.{◌≡◌, ◌+◌, ◌-◌, ◌∷◌, ◌∙◌, sym, ap, drop, length, take, arith, length-drop}
 use Rattle.std.proofs.lemmas.List.{take_all}
 use Rattle.yarn_plural.specs.Steps.{pieces}
 use Rattle.yarn_plural.proofs.PieceLemmas.{cut-there, cut-not, cut-none}

@@ -1,4 +1,4 @@
-use Rattle.std.proofs.Common.{◌≡◌, List, [], ◌∷◌}
+use Rattle.std.proofs.Common.{◌≡◌}
 use Rattle.std.specs.Option.{option_copied}
 use Rattle.yarn_plural.specs.declared.token.Joint.TheVariants.{Comma}
 use Rattle.yarn_plural.specs.Steps.{listed_of, pieces, pieces_behind, each, left}

@@ -16,4 +16,4 @@ loop-rest-preserved c =
     let is : IsLine first.result.0.now c.in-Some.found = search rules in
     let added : after_line l.reader c.in-Some.found l.number ≡ Some c.add.new.self = search rules in
     IsReading-step c.args.bytes.now l.number l.rest.now l.reader first.result.0.now first.result.1.now c.in-Some.found c.add.new.self l.invariant
-        first.ensures.lines first.ensures.shorter is added
+    first.ensures.lines first.ensures.shorter is added

@@ -1,4 +1,4 @@
-use Rattle.std.proofs.Common.{arith, ◌∙◌, sym}
+use Rattle.std.proofs.Common.{arith}
 use Rattle.std.proofs.lemmas.Grind.{common_steps}
 use Rattle.yarn_plural.specs.Steps.{in_run}
 use Rattle.yarn_plural.proofs.ScanLemmas.{front-take, past-drop}

@@ -1,7 +1,7 @@
-use Rattle.std.proofs.Common.{◌≡◌, ◌<◌, ◌≤◌, ◌∷◌, ◌++◌, [], length, Some, None, rules, arith, sym, ap, ◌∙◌}
+use Rattle.std.proofs.Common.{◌≡◌, ◌∷◌, ◌++◌, [], length, Some, None, rules, arith, ap}
 use Rattle.std.proofs.lemmas.Bool.Decides.{nat_tests}
 use Rattle.std.proofs.lemmas.List.{nil_from_length}
-use Rattle.yarn_plural.specs.Tokens.{is_blank, past}
+use Rattle.yarn_plural.specs.Tokens.{is_blank}
 use Rattle.yarn_plural.specs.Steps.{next_of}
 use Rattle.yarn_plural.proofs.TokenLemmas.{IsScanning-start, IsScanning-step, IsScanning-end, IsScanning-none, next_of-shorter, past-shorter}
 use Rattle.yarn_plural.proofs.scan.read_tokens.Goals as goal

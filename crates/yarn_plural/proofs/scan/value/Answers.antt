@@ -1,5 +1,5 @@
-use Rattle.std.proofs.Common.{arith, get_or, ◌<◌, ◌^◌, ◌≤◌, length}
-use Rattle.yarn_plural.proofs.ScanLemmas.{IsReading, number-small, reading-digit, digit-bounds, IsReading-step}
+use Rattle.std.proofs.Common.{arith, get_or}
+use Rattle.yarn_plural.proofs.ScanLemmas.{number-small, reading-digit, digit-bounds, IsReading-step}
 use Rattle.yarn_plural.proofs.scan.value.Goals as goal
 
 pub overflow_mul-number : goal.overflow_mul-number
