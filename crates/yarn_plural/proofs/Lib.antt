@@ -5,3 +5,5 @@ pub mod ScanLemmas
 pub mod TokenLemmas
 pub mod MeaningLemmas
 pub mod ReadingLemmas
+pub mod OneReadingLemmas
+pub mod EnglishLemmas

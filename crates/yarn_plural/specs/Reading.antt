@@ -106,3 +106,7 @@ ReadsPlural bytes (Ok table) = (ls : List Line) × AreRead [] (lines_of bytes) l
 ReadsPlural bytes (Err (BadRule at)) = IsBadAt bytes at
 ReadsPlural bytes (Err (DuplicateCategory at)) = (ls : List Line) × AreRead [] (lines_of bytes) ls × RepeatsAt ls at
 ReadsPlural bytes (Err Memory) = ⊤
+
+-- a file is read as one table or refused at one line, apart from want of memory
+abbrev pub FileIsOneThing : Type 0
+FileIsOneThing = (bytes : List ℕ) (r s : Result PluralTable PluralFault) → ReadsPlural bytes r → ReadsPlural bytes s → ¬ (r ≡ Err Memory) → ¬ (s ≡ Err Memory) → r ≡ s

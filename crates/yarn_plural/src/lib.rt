@@ -13,7 +13,7 @@ mod table;
 mod token;
 
 pub use default_table::english;
-pub use laws::line_is_one_thing;
+pub use laws::{english_is_written, file_is_one_thing, line_is_one_thing};
 pub use read::{PluralFault, read_plural};
 pub use rule::{Category, Listed, Operand, Relation, Rule};
 pub use table::{Form, PluralTable};
