@@ -1,18 +1,16 @@
 -- The text of the default table is read as the default table.
-use Rattle.std.proofs.Common.{◌≡◌, ℕ, zero, suc, List, [], ◌∷◌, ◌++◌, Bool, true, false, Option, None, Some, refl, sym, ap, ◌∙◌, subst}
+use Rattle.std.proofs.Common.{◌≡◌, ℕ, zero, suc, List, [], ◌∷◌, true, Option, None, Some, refl, ap, subst}
 use Rattle.std.specs.Prelude.{Ok, IsUtf8, codes}
-use Rattle.yarn_plural.specs.declared.rule.Category.{Category}
 use Rattle.yarn_plural.specs.declared.rule.Category.TheVariants as category
 use Rattle.yarn_plural.specs.declared.table.Form.TheVariants as form
 use Rattle.yarn_plural.specs.declared.rule.Operand.TheVariants as operand
-use Rattle.yarn_plural.specs.declared.rule.Rule.{Rule}
 use Rattle.yarn_plural.specs.declared.line.Line.{Line}
-use Rattle.yarn_plural.specs.declared.line.Line.TheVariants.{Ignored, Begins, Gives}
+use Rattle.yarn_plural.specs.declared.line.Line.TheVariants.{Begins, Gives}
 use Rattle.yarn_plural.specs.declared.token.Token.{Token}
-use Rattle.yarn_plural.specs.Lines.{lines_of, without_end}
+use Rattle.yarn_plural.specs.Lines.{without_end}
 use Rattle.yarn_plural.specs.Tokens.{is_blank, past, Spells}
 use Rattle.yarn_plural.specs.Rules.{IsLine}
-use Rattle.yarn_plural.specs.Reading.{AreRead, NoRepeat, ReadsPlural}
+use Rattle.yarn_plural.specs.Reading.{ReadsPlural}
 use Rattle.yarn_plural.specs.English.{english_text, english_table, relation, rule_of_both, rule_of_end, rule_of_others}
 use Rattle.yarn_plural.specs.Steps.{Next, next_of, meaning_of}
 use Rattle.yarn_plural.proofs.TokenLemmas.{next_of-only}
@@ -78,15 +76,37 @@ line_is bytes text l ended utf8 e = by (scan 40 text) refl e
 pub english_is_written : ReadsPlural english_text (Ok english_table)
 unfolding lib.Utf8.encode
 english_is_written = (
-    Begins form.Cardinal ∷ Gives (rule_of_both category.One (relation operand.I None true 1) (relation operand.V None true 0)) ∷ Gives rule_of_others
-        ∷ Begins form.Ordinal ∷ Gives (rule_of_end category.One 1 11) ∷ Gives (rule_of_end category.Two 2 12) ∷ Gives (rule_of_end category.Few 3 13) ∷ Gives rule_of_others ∷ [],
-    (line_is _ (codes "cardinal") _ refl (codes "cardinal", (refl, refl)) refl, refl,
-    (line_is _ (codes "one: i = 1 and v = 0") _ refl (codes "one: i = 1 and v = 0", (refl, refl)) refl, refl,
-    (line_is _ (codes "other:") _ refl (codes "other:", (refl, refl)) refl, refl,
-    (line_is _ (codes "ordinal") _ refl (codes "ordinal", (refl, refl)) refl, refl,
-    (line_is _ (codes "one: n % 10 = 1 and n % 100 != 11") _ refl (codes "one: n % 10 = 1 and n % 100 != 11", (refl, refl)) refl, refl,
-    (line_is _ (codes "two: n % 10 = 2 and n % 100 != 12") _ refl (codes "two: n % 10 = 2 and n % 100 != 12", (refl, refl)) refl, refl,
-    (line_is _ (codes "few: n % 10 = 3 and n % 100 != 13") _ refl (codes "few: n % 10 = 3 and n % 100 != 13", (refl, refl)) refl, refl,
-    (line_is _ (codes "other:") _ refl (codes "other:", (refl, refl)) refl, refl, tt)))))))),
-    (refl, (refl, (refl, (refl, (refl, (refl, (refl, (refl, tt)))))))),
-    refl)
+  Begins form.Cardinal ∷ Gives (rule_of_both category.One (relation operand.I None true 1) (relation operand.V None true 0)) ∷ Gives rule_of_others
+      ∷ Begins form.Ordinal ∷ Gives (rule_of_end category.One 1 11) ∷ Gives (rule_of_end category.Two 2 12) ∷ Gives (rule_of_end category.Few 3 13) ∷ Gives rule_of_others ∷ [],
+  (
+    line_is _ (codes "cardinal") _ refl (codes "cardinal", (refl, refl)) refl,
+    refl,
+    (
+      line_is _ (codes "one: i = 1 and v = 0") _ refl (codes "one: i = 1 and v = 0", (refl, refl)) refl,
+      refl,
+      (
+        line_is _ (codes "other:") _ refl (codes "other:", (refl, refl)) refl,
+        refl,
+        (
+          line_is _ (codes "ordinal") _ refl (codes "ordinal", (refl, refl)) refl,
+          refl,
+          (
+            line_is _ (codes "one: n % 10 = 1 and n % 100 != 11") _ refl (codes "one: n % 10 = 1 and n % 100 != 11", (refl, refl)) refl,
+            refl,
+            (
+              line_is _ (codes "two: n % 10 = 2 and n % 100 != 12") _ refl (codes "two: n % 10 = 2 and n % 100 != 12", (refl, refl)) refl,
+              refl,
+              (
+                line_is _ (codes "few: n % 10 = 3 and n % 100 != 13") _ refl (codes "few: n % 10 = 3 and n % 100 != 13", (refl, refl)) refl,
+                refl,
+                (line_is _ (codes "other:") _ refl (codes "other:", (refl, refl)) refl, refl, tt),
+              ),
+            ),
+          ),
+        ),
+      ),
+    ),
+  ),
+  (refl, (refl, (refl, (refl, (refl, (refl, (refl, (refl, tt)))))))),
+  refl,
+)

@@ -1,5 +1,5 @@
 -- A file is read as one thing at most.
-use Rattle.std.proofs.Common.{◌≡◌, ℕ, suc, ◌+◌, List, [], ◌∷◌, ◌++◌, length, Bool, true, false, refl, sym, ap, ◌∙◌, subst, append-nil, append_assoc, true≢false}
+use Rattle.std.proofs.Common.{◌≡◌, ℕ, suc, ◌+◌, List, [], ◌∷◌, ◌++◌, length, true, false, refl, sym, ap, ◌∙◌, subst, append-nil, append_assoc, true≢false}
 use Rattle.std.specs.Prelude.{Result, Ok, Err}
 use Rattle.yarn_plural.specs.declared.line.Line.{Line}
 use Rattle.yarn_plural.specs.declared.table.PluralTable.{PluralTable}
