@@ -74,7 +74,7 @@ pub record IsValue (digits : List ℕ) (n : ℕ) : Type 0 where
   pub most : length digits ≤ 18
   pub number : number_after 0 digits ≡ n
 
--- `#` at the front of a line, or `@`, and all that follows
+-- `#` or `@`, and all that follows
 abbrev pub IsRestFrom : ℕ → List ℕ → Type 0
 IsRestFrom mark part = (behind : List ℕ) × (part ≡ mark ∷ behind)
 
