@@ -1,6 +1,7 @@
 -- Signatures that are found by name, and what is told of the functions under them, after one of them was called.
-use Rattle.std.proofs.Common.{◌≡◌, ◌≢◌, ◌<◌, ℕ, suc, List, [], ◌∷◌, ◌++◌, length, Bool, true, false, not, ◌&&◌, nat_eq, nat_le, Option, Some, None, option_map, is_some, IsSome, IsTrue, slice_get, slice_set, map, refl, sym, ◌∙◌, arith}
+use Rattle.std.proofs.Common.{◌≡◌, ◌≢◌, ◌<◌, ◌≤◌, ℕ, suc, List, [], ◌∷◌, ◌++◌, length, Bool, true, false, not, ◌&&◌, nat_eq, nat_le, Option, Some, None, option_map, is_some, IsSome, IsTrue, slice_get, slice_set, map, refl, sym, ap, ◌∙◌, arith}
 use Rattle.std.specs.Cmp.Lexicographic.{pointwise, same_text, other_text}
+use Rattle.std.proofs.lemmas.Bool.Decides.{nat_tests}
 use Rattle.yarn_value.specs.declared.value.Kind.{Kind}
 use Rattle.yarn_value.specs.declared.signature.Signature.{Signature}
 use Rattle.yarn_host.specs.Meaning.{Meaning}
@@ -9,6 +10,7 @@ use Rattle.yarn_value.specs.Values.{kind_of}
 use Rattle.yarn_value.specs.Rows.{same_kind}
 use Rattle.yarn_value.specs.Replies.{is_reply_of, is_short}
 use Rattle.yarn_value.specs.Signatures.{signature_named}
+use Rattle.yarn_host.specs.Adds.{refusal_of}
 use Rattle.yarn_host.specs.Names.{place_of, meaning_of, takes, IsCallable, is_free_name, are_proper}
 
 both : (a b : Bool) → (a && b) ≡ true → (a ≡ true) × (b ≡ true)
@@ -110,14 +112,15 @@ place_of-bound (s ∷ ss) name at found = by_test (place_of-bound ss name) (poin
 -- what is found by place is found by name
 pub named_is_placed : (signatures : List Signature) (name : List ℕ) → is_some (place_of signatures name) ≡ is_some (signature_named signatures name)
 named_is_placed [] name = refl
-named_is_placed (s ∷ ss) name = by_test (pointwise nat_eq s.name name) refl
+named_is_placed (s ∷ ss) name = by_test (named_is_placed ss name) (pointwise nat_eq s.name name) refl
   where
     behind : (o : Option ℕ) → is_some (option_map suc o) ≡ is_some o
     behind None = refl
     behind (Some k) = refl
-    by_test : (b : Bool) → pointwise nat_eq s.name name ≡ b → is_some (place_of (s ∷ ss) name) ≡ is_some (signature_named (s ∷ ss) name)
-    by_test true is = rw is refl
-    by_test false is = rw is (behind (place_of ss name) ∙ named_is_placed ss name)
+    by_test : is_some (place_of ss name) ≡ is_some (signature_named ss name) →
+        (b : Bool) → pointwise nat_eq s.name name ≡ b → is_some (place_of (s ∷ ss) name) ≡ is_some (signature_named (s ∷ ss) name)
+    by_test later true is = rw is refl
+    by_test later false is = rw is (behind (place_of ss name) ∙ later)
 
 -- a function that takes arguments has a place
 pub callable_is_placed : (signatures : List Signature) (name : List ℕ) (args : List Value) → IsCallable signatures name args → IsSome (place_of signatures name)
@@ -160,26 +163,48 @@ reply_test signatures name at kind value found is =
 named_behind : (signatures : List Signature) (last : Signature) (name : List ℕ) → is_some (signature_named signatures name) ≡ false →
     pointwise nat_eq last.name name ≡ false → is_some (signature_named (signatures ++ last ∷ []) name) ≡ false
 named_behind [] last name none apart = rw apart refl
-named_behind (s ∷ ss) last name none apart = by_test (pointwise nat_eq s.name name) refl
+named_behind (s ∷ ss) last name none apart = by_test (λ h. named_behind ss last name h apart) (pointwise nat_eq s.name name) refl
   where
-    by_test : (b : Bool) → pointwise nat_eq s.name name ≡ b → is_some (signature_named (s ∷ ss ++ last ∷ []) name) ≡ false
-    by_test true is = let never = rw is at none in absurd cc
-    by_test false is = rw is (named_behind ss last name (rw is at none) apart)
+    by_test : (is_some (signature_named ss name) ≡ false → is_some (signature_named (ss ++ last ∷ []) name) ≡ false) →
+        (b : Bool) → pointwise nat_eq s.name name ≡ b → is_some (signature_named (s ∷ ss ++ last ∷ []) name) ≡ false
+    by_test later true is = let never = rw is at none in absurd cc
+    by_test later false is = rw is (later (rw is at none))
 
-pub proper_more : (signatures : List Signature) (last : Signature) → are_proper signatures ≡ true → is_free_name last.name ≡ true →
+not_true : (b : Bool) → not b ≡ true → b ≡ false
+not_true true e = absurd cc
+not_true false e = refl
+
+few_enough : (n : ℕ) → n ≤ 16 → nat_le n 16 ≡ true
+few_enough n few = grind (arith, nat_tests)
+
+proper_more : (signatures : List Signature) (last : Signature) → are_proper signatures ≡ true → is_free_name last.name ≡ true →
     nat_le (length last.params) 16 ≡ true → is_some (signature_named signatures last.name) ≡ false → are_proper (signatures ++ last ∷ []) ≡ true
 proper_more [] last proper free few none = rw (free, few) refl
-proper_more (s ∷ ss) last proper free few none = by_test (pointwise nat_eq s.name last.name) refl
+proper_more (s ∷ ss) last proper free few none = by_test (λ h g. proper_more ss last h free few g) (pointwise nat_eq s.name last.name) refl
   where
-    by_test : (b : Bool) → pointwise nat_eq s.name last.name ≡ b → are_proper (s ∷ ss ++ last ∷ []) ≡ true
-    by_test true is = let never = rw is at none in absurd cc
-    by_test false is =
-        let first = both (is_free_name s.name) _ proper in
-        let second = both (nat_le (length s.params) 16) _ first.1 in
-        let third = both (not (is_some (signature_named ss s.name))) _ second.1 in
-        let alone : is_some (signature_named ss s.name) ≡ false = not_true _ third.0 in
-        let apart : pointwise nat_eq last.name s.name ≡ false = differ last.name s.name (λ e. other_text s.name last.name (sym is) e) in
-        rw (first.0, second.0, named_behind ss last s.name alone apart, proper_more ss last third.1 free few (rw is at none)) refl
-    not_true : (b : Bool) → not b ≡ true → b ≡ false
-    not_true true e = absurd cc
-    not_true false e = refl
+    by_test : (are_proper ss ≡ true → is_some (signature_named ss last.name) ≡ false → are_proper (ss ++ last ∷ []) ≡ true) →
+        (b : Bool) → pointwise nat_eq s.name last.name ≡ b → are_proper (s ∷ ss ++ last ∷ []) ≡ true
+    by_test later true is = let never = rw is at none in absurd cc
+    by_test later false is =
+        let first = both (is_free_name s.name && nat_le (length s.params) 16 && not (is_some (signature_named ss s.name))) (are_proper ss) proper in
+        let second = both (is_free_name s.name && nat_le (length s.params) 16) (not (is_some (signature_named ss s.name))) first.0 in
+        let third = both (is_free_name s.name) (nat_le (length s.params) 16) second.0 in
+        let alone : is_some (signature_named ss s.name) ≡ false = not_true (is_some (signature_named ss s.name)) second.1 in
+        let apart : pointwise nat_eq last.name s.name ≡ false = differ last.name s.name (λ e. other_text s.name last.name (sym is) (sym e)) in
+        rw (third.0, third.1, named_behind ss last s.name alone apart, later first.1 (rw is at none)) refl
+
+-- a name that isn't refused is free and new
+allowed : (signatures : List Signature) (name : List ℕ) → refusal_of signatures name ≡ None →
+    (is_free_name name ≡ true) × (is_some (signature_named signatures name) ≡ false)
+allowed signatures name none = by_test (is_free_name name) (is_some (signature_named signatures name)) refl refl
+  where
+    by_test : (a b : Bool) → is_free_name name ≡ a → is_some (signature_named signatures name) ≡ b → (is_free_name name ≡ true) × (is_some (signature_named signatures name) ≡ false)
+    by_test false b free is = let never = rw free at none in absurd cc
+    by_test true true free is = let never = rw (free, is) at none in absurd cc
+    by_test true false free is = (free, is)
+
+pub stays_proper : (signatures later : List Signature) (last : Signature) → later ≡ signatures ++ last ∷ [] → are_proper signatures ≡ true →
+    length last.params ≤ 16 → refusal_of signatures last.name ≡ None → are_proper later ≡ true
+stays_proper signatures later last e proper few none =
+    let may = allowed signatures last.name none in
+    ap are_proper e ∙ proper_more signatures last proper may.0 (few_enough (length last.params) few) may.1

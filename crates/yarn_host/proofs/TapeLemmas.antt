@@ -1,5 +1,5 @@
 -- What a tape tells of one ask, and of one course after another.
-use Rattle.std.proofs.Common.{◌≡◌, ℕ, suc, ◌+◌, List, [], ◌∷◌, ◌++◌, length, map, Bool, true, false, nat_eq, Option, Some, None, Result, Ok, Err, ◌⊎◌, inl, inr, refl, sym, ap, subst, ◌∙◌, arith, append_assoc, append-nil, length-append, add-zero, add-suc}
+use Rattle.std.proofs.Common.{◌≡◌, ℕ, zero, suc, ◌+◌, List, [], ◌∷◌, ◌++◌, length, map, Bool, true, false, nat_eq, Option, Some, None, Result, Ok, Err, ◌⊎◌, inl, inr, refl, sym, ap, subst, ◌∙◌, arith, append_assoc, append-nil, length-append, add-zero, add-suc}
 use Rattle.std.specs.Cmp.Lexicographic.{pointwise, same_text, other_text}
 use Rattle.std.proofs.lemmas.List.{map-append}
 use Rattle.std.proofs.lemmas.List.Elements.{filter-append}
@@ -38,7 +38,7 @@ counted-append : (xs ys : Tape) (count : ℕ) → counted (length ys) (counted (
 counted-append xs ys count = rw (length-append xs ys) (counted-sum (length xs) (length ys) count)
   where
     counted-sum : (m n count : ℕ) → counted n (counted m count) ≡ counted (m + n) count
-    counted-sum m 0 count = rw (add-zero m) refl
+    counted-sum m zero count = rw (add-zero m) refl
     counted-sum m (suc n) count = rw (add-suc m n) (ap one_more (counted-sum m n count))
 
 nothing_before : (xs ys : Tape) → xs ++ ys ≡ [] → xs ≡ []

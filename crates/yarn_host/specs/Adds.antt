@@ -1,9 +1,9 @@
 -- What `add` does to a table, and why it refuses a function (docs/guide-hosts.md, Adding a function).
-use Rattle.std.specs.Prelude.{◌≡◌, ℕ, ◌++◌, List, [], ◌∷◌, length, not, nat_le, Option, Some, None, is_some, IsErrAnd, Result, if◌then◌else◌}
+use Rattle.std.specs.Prelude.{◌≡◌, ℕ, ◌++◌, List, [], ◌∷◌, length, not, nat_le, Option, Some, None, is_some, Result, Ok, Err, if◌then◌else◌, ⊤}
 use Rattle.yarn_value.specs.declared.signature.Signature.{Signature}
 use Rattle.yarn_value.specs.Signatures.{signature_named}
 use Rattle.yarn_host.specs.declared.table.AddFault.{AddFault}
-use Rattle.yarn_host.specs.declared.table.AddFault.TheVariants.{ReservedFunction, DuplicateFunction, TooManyFunctions}
+use Rattle.yarn_host.specs.declared.table.AddFault.TheVariants.{ReservedFunction, DuplicateFunction, TooManyFunctions, Memory}
 use Rattle.yarn_host.specs.Meaning.{Meaning}
 use Rattle.yarn_host.specs.Names.{is_free_name}
 use Rattle.yarn_host.specs.Hosts.{Hosts}
@@ -23,6 +23,9 @@ with_function hosts signature meaning = record hosts {
   meanings = hosts.meanings ++ meaning ∷ [];
 }
 
--- an answer that hands the function back for this cause
-abbrev pub IsRefused : {T S F : Type 0} → Result T (S × F × AddFault) → AddFault → Type 0
-IsRefused result fault = IsErrAnd result (λ back. back.2 ≡ fault)
+-- the answer to a function that is refused for this cause; one that is refused for none is kept out by want of memory alone
+abbrev pub IsAnswer : {T S F : Type 0} → Option AddFault → Result T (S × F × AddFault) → Type 0
+IsAnswer (Some fault) (Ok done) = ⊥
+IsAnswer (Some fault) (Err back) = back.2 ≡ fault
+IsAnswer None (Ok done) = ⊤
+IsAnswer None (Err back) = back.2 ≡ Memory

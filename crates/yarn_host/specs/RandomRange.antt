@@ -4,7 +4,7 @@ use Rattle.rand_pcg.specs.Lcg.{Lcg}
 use Rattle.rand_pcg.specs.Pcg.{pcg64}
 use Rattle.yarn_value.specs.declared.value.Value.{Value}
 use Rattle.yarn_value.specs.declared.value.Value.TheVariants.{Number, Str, Truth}
-use Rattle.yarn_host.specs.declared.dice.RandomRange.{RandomRange}
+use Rattle.yarn_host.specs.declared.range.RandomRange.{RandomRange}
 use Rattle.yarn_host.specs.Ranges.{width_of}
 use Rattle.yarn_host.specs.Meaning.{Meaning, untold}
 

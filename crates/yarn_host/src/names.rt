@@ -1,5 +1,6 @@
 //! Finds signatures by name, and says which names and arguments are right.
-ghost use Rattle.std.specs.Prelude.{◌≡◌, ◌<◌, ◌&&◌, length, map, Some, IsSome, is_some, slice_get};
+ghost use Rattle.std.specs.Prelude.{◌≡◌, ◌<◌, ◌&&◌, length, map, Some, IsSome, is_some};
+ghost use Rattle.std.specs.Option.{option_copied};
 ghost use Rattle.yarn_value.specs.Values.{kind_of};
 ghost use Rattle.yarn_value.specs.Rows.{same_kind};
 ghost use Rattle.yarn_value.specs.Calls.{same_kinds};
@@ -17,6 +18,25 @@ pub(crate) fn is_free(name: &Text) -> bool
     is_name(name) && !is_reserved(name.as_str()) && !find_builtin(name.as_str()).is_some()
 }
 
+// The first signature with a name.
+fn named<'s>(signatures: &'s [Signature], name: &Text) -> Option<&'s Signature>
+    ensures { option_copied result ≡ signature_named signatures.now name.now }
+{
+    for signature in signatures {
+        if signature.name == *name {
+            return Some(signature);
+        }
+    }
+    None
+}
+
+// Whether there is a signature with a name.
+pub(crate) fn has(signatures: &Signatures, name: &Text) -> bool
+    ensures { result ≡ is_some (signature_named signatures.now name.now) }
+{
+    named(signatures.as_slice(), name).is_some()
+}
+
 // The place of the first signature with a name.
 fn find(signatures: &[Signature], name: &Text) -> Option<usize>
     ensures { result ≡ place_of signatures.now name.now }
@@ -27,13 +47,6 @@ fn find(signatures: &[Signature], name: &Text) -> Option<usize>
         }
     }
     None
-}
-
-// Whether there is a signature with a name.
-pub(crate) fn has(signatures: &Signatures, name: &Text) -> bool
-    ensures { result ≡ is_some (signature_named signatures.now name.now) }
-{
-    find(signatures.as_slice(), name).is_some()
 }
 
 // The place of the signature with a name that is there.
@@ -52,9 +65,9 @@ pub(crate) fn place(signatures: &Signatures, name: &Text) -> usize
 pub(crate) fn has_params(signatures: &Signatures, name: &Text, args: &[Value]) -> bool
     ensures { result ≡ takes (signature_named signatures.now name.now) args.now }
 {
-    match find(signatures.as_slice(), name) {
+    match named(signatures.as_slice(), name) {
         None => false,
-        Some(at) => have_kinds(signatures.as_slice()[at].params.as_slice(), args),
+        Some(signature) => have_kinds(signature.params.as_slice(), args),
     }
 }
 
@@ -62,12 +75,12 @@ pub(crate) fn has_params(signatures: &Signatures, name: &Text, args: &[Value]) -
 fn have_kinds(kinds: &[Kind], values: &[Value]) -> bool
     ensures { result ≡ same_kinds kinds.now (map kind_of values.now) }
 {
-    match (kinds, values) {
-        ([], []) => true,
-        ([kind, kinds @ ..], [value, values @ ..]) => {
-            has_kind(*kind, value) && have_kinds(kinds, values)
-        }
-        _ => false,
+    match kinds {
+        [] => values.is_empty(),
+        [kind, kinds @ ..] => match values {
+            [] => false,
+            [value, values @ ..] => has_kind(*kind, value) && have_kinds(kinds, values),
+        },
     }
 }
 

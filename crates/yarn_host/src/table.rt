@@ -1,10 +1,10 @@
 //! The table of host functions, and the tape of their replies. The rules are docs/guide-hosts.md, "The table" and
 //! "Asking".
-ghost use Rattle.std.specs.Prelude.{◌≡◌, ◌≤◌, ◌↔◌, length, [], true, false, IsTrue, IsSome, IfErr, OnOk, OnErr, Some, None};
+ghost use Rattle.std.specs.Prelude.{◌≡◌, ◌≤◌, ◌↔◌, length, [], true, IsTrue, IfErr, OnOk, OnErr, Some, None};
 ghost use Rattle.yarn_value.specs.Signatures.{signature_named};
 ghost use Rattle.yarn_host.specs.Asks.{Asked};
-ghost use Rattle.yarn_host.specs.Names.{takes, place_of, IsCallable, is_free_name, are_proper};
-ghost use Rattle.yarn_host.specs.Adds.{refusal_of, with_function, IsRefused};
+ghost use Rattle.yarn_host.specs.Names.{takes, place_of, IsCallable, are_proper};
+ghost use Rattle.yarn_host.specs.Adds.{refusal_of, with_function, IsAnswer};
 ghost use Rattle.yarn_host.specs.Tape.{TapeTells, added_by, course_by};
 
 use crate::calls::call_in;
@@ -93,9 +93,7 @@ impl<B: HostFunction> Table<B> {
         ensures ok { OnOk result (hosts_of B.meaning self.new ≡ with_function (hosts_of B.meaning self.old) signature (B.meaning function)) }
         ensures err { OnErr result (hosts_of B.meaning self.new ≡ hosts_of B.meaning self.old) }
         ensures handed_back { IfErr result (λ back. (back.0 ≡ signature) × (back.1 ≡ function)) }
-        ensures reserved { IsRefused result AddFault.ReservedFunction ↔ (is_free_name signature.name ≡ false) }
-        ensures duplicate { IsRefused result AddFault.DuplicateFunction ↔ ((is_free_name signature.name ≡ true) × IsSome (signature_named (hosts_of B.meaning self.old).signatures signature.name)) }
-        ensures too_many { IsRefused result AddFault.TooManyFunctions ↔ ((is_free_name signature.name ≡ true) × (signature_named (hosts_of B.meaning self.old).signatures signature.name ≡ None) × (256 ≤ length (hosts_of B.meaning self.old).signatures)) }
+        ensures refused { IsAnswer (refusal_of (hosts_of B.meaning self.old).signatures signature.name) result }
     {
         match refusal(&self.signatures, &signature.name) {
             Some(fault) => Err((signature, function, fault)),
