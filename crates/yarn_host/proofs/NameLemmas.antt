@@ -108,7 +108,6 @@ place_of-bound (s ∷ ss) name at found = by_test (place_of-bound ss name) (poin
         let behind = some_behind (place_of ss name) at (rw is at found) in
         omega (arith, later behind.0 behind.1)
 
-
 -- what is found by place is found by name
 pub named_is_placed : (signatures : List Signature) (name : List ℕ) → is_some (place_of signatures name) ≡ is_some (signature_named signatures name)
 named_is_placed [] name = refl
@@ -117,6 +116,7 @@ named_is_placed (s ∷ ss) name = by_test (named_is_placed ss name) (pointwise n
     behind : (o : Option ℕ) → is_some (option_map suc o) ≡ is_some o
     behind None = refl
     behind (Some k) = refl
+
     by_test : is_some (place_of ss name) ≡ is_some (signature_named ss name) →
         (b : Bool) → pointwise nat_eq s.name name ≡ b → is_some (place_of (s ∷ ss) name) ≡ is_some (signature_named (s ∷ ss) name)
     by_test later true is = rw is refl

@@ -131,13 +131,14 @@ module _ (old new : Hosts) (name : List ℕ) (args : List Value) where
       ((other : List ℕ) → pointwise nat_eq name other ≡ false → (entries_of other added ≡ []) × (last_of course other ≡ Nothing)) →
       ((other : List ℕ) → pointwise nat_eq name other ≡ true → (before after : Meaning) → Goes before after → Follows (entries_of other added) (last_of course other) (Some before) (Some after)) →
       (other : List ℕ) → Follows (entries_of other added) (last_of course other)
-          (meaning_of old.signatures old.meanings other) (meaning_of new.signatures new.meanings other)
+      (meaning_of old.signatures old.meanings other) (meaning_of new.signatures new.meanings other)
   each_name added course Goes asks apart there other = by_test (pointwise nat_eq name other) refl
     where
       alike : (before after : Option Meaning) → pointwise nat_eq name other ≡ true → Between Goes before after → Follows (entries_of other added) (last_of course other) before after
       alike None after is b = absurd b
       alike (Some before) None is b = absurd b
       alike (Some before) (Some after) is b = there other is before after b
+
       by_test : (b : Bool) → pointwise nat_eq name other ≡ b → Follows (entries_of other added) (last_of course other)
           (meaning_of old.signatures old.meanings other) (meaning_of new.signatures new.meanings other)
       by_test true is = alike _ _ is

@@ -21,3 +21,8 @@ pub use laws::courses_compose;
 pub use range::RandomRange;
 pub use scripted::Scripted;
 pub use table::{AddFault, AskFault, Table};
+
+#[cfg(test)]
+mod guide;
+#[cfg(test)]
+mod tests;
