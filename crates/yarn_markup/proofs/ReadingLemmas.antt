@@ -1,0 +1,82 @@
+-- Values and properties: what is read so far and what is left, and that each reading goes on.
+use Rattle.std.proofs.Common.{◌≡◌, ℕ, suc, ◌+◌, ◌-◌, ◌<◌, ◌≤◌, List, [], ◌∷◌, ◌++◌, length, take, drop, Bool, true, false, cond, Option, Some, None, refl, sym, ap, ◌∙◌, subst, arith, append_assoc, append-nil, length-drop}
+use Rattle.std.proofs.lemmas.Bool.Decides.{nat_tests}
+use Rattle.yarn_base.specs.Name.{is_name_of}
+use Rattle.yarn_markup.specs.declared.marked.Property.{Property}
+use Rattle.yarn_markup.specs.Characters.{is_blank, is_word, run_length, past_blanks, is_property_name}
+use Rattle.yarn_markup.specs.Tags.{Cut, before, ends_quoted, skips_next, quoted_char, quoted, unless_empty, word, value_at, Found, with_value, assigned, assigned_name, named_property, property_at, Properties, none, more}
+use Rattle.yarn_markup.specs.Steps.{AddsProperties}
+
+pub before_before : (a b : List ℕ) (o : Option Cut) → before a (before b o) ≡ before (a ++ b) o
+before_before a b None = refl
+before_before a b (Some cut) = rw append_assoc refl
+
+-- ---- what is left is shorter
+
+abbrev pub rest_of : Option Cut → List ℕ
+rest_of None = []
+rest_of (Some cut) = cut.rest
+
+abbrev pub left_of : Option Found → List ℕ
+left_of None = []
+left_of (Some found) = found.rest
+
+pub past_blanks-short : (text : List ℕ) → length (past_blanks text) ≤ length text
+past_blanks-short [] = omega arith
+past_blanks-short (c ∷ cs) = by_blank (is_blank c)
+  where
+    by_blank : (b : Bool) → length (cond b (past_blanks cs) (c ∷ cs)) ≤ length (c ∷ cs)
+    by_blank true = omega (arith, past_blanks-short cs)
+    by_blank false = omega arith
+
+rest_of-before : (front : List ℕ) (o : Option Cut) → rest_of (before front o) ≡ rest_of o
+rest_of-before front None = refl
+rest_of-before front (Some cut) = refl
+
+quoted-short : (skips : Bool) (text : List ℕ) → length (rest_of (quoted skips text)) ≤ length text
+quoted-short skips [] = omega arith
+quoted-short skips (c ∷ cs) = by_end (ends_quoted skips c)
+  where
+    further : Option Cut
+    further = before (quoted_char skips c) (quoted (skips_next skips c) cs)
+    by_end : (b : Bool) → length (rest_of (cond b (Some (record { own = []; rest = cs })) further)) ≤ length (c ∷ cs)
+    by_end true = omega arith
+    by_end false = omega (arith, quoted-short (skips_next skips c) cs, ap length (rest_of-before (quoted_char skips c) (quoted (skips_next skips c) cs)))
+
+unless_empty-short : (own rest : List ℕ) → length (rest_of (unless_empty own rest)) ≤ length rest
+unless_empty-short [] rest = omega arith
+unless_empty-short (c ∷ cs) rest = omega arith
+
+word-short : (text : List ℕ) → length (rest_of (word text)) ≤ length text
+word-short text =
+    let n = run_length is_word text in
+    omega (arith, unless_empty-short (take n text) (drop n text), length-drop n text)
+
+value_at-short : (text : List ℕ) → length (rest_of (value_at text)) ≤ length text
+value_at-short [] = omega arith
+value_at-short (c ∷ cs) = ?
+
+with_value-short : (name : List ℕ) (o : Option Cut) → left_of (with_value name o) ≡ rest_of o
+with_value-short name None = refl
+with_value-short name (Some cut) = refl
+
+-- ---- properties
+
+pub property_shorter : (text : List ℕ) (found : Found) → property_at text ≡ Some found → length found.rest < length text
+property_shorter text found e = ?
+
+-- what was put so far into the list, where the rest is what is left of the text
+pub record GoesOn (text : List ℕ) (old : List Property) (rest : List ℕ) (new : List Property) : Type 0 where
+  pub all : (further : List Property) (end : List ℕ) → Properties rest further end → AddsProperties text old (new ++ further) end
+
+pub GoesOn-start : (text : List ℕ) (old : List Property) → GoesOn text old text old
+GoesOn-start text old = record { all = λ further end goes. record { further = further; goes = goes; grown = refl } }
+
+pub GoesOn-step : (text rest : List ℕ) (old new after : List Property) (found : Found) → GoesOn text old rest new → property_at rest ≡ Some found →
+    after ≡ new ++ found.property ∷ [] → GoesOn text old found.rest after
+GoesOn-step text rest old new after found so_far is grown = record {
+  all = λ further end goes. subst (λ l. AddsProperties text old l end) (sym (ap (λ l. l ++ further) grown ∙ append_assoc new (found.property ∷ []) further)) (so_far.all (found.property ∷ further) end (more found is goes));
+}
+
+pub AddsProperties-end : (text rest : List ℕ) (old new : List Property) → GoesOn text old rest new → property_at rest ≡ None → AddsProperties text old new rest
+AddsProperties-end text rest old new so_far is = subst (λ l. AddsProperties text old l rest) (append-nil new) (so_far.all [] rest (none is))
