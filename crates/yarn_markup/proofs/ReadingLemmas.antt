@@ -1,5 +1,7 @@
 -- Values and properties: what is read so far and what is left, and that each reading goes on.
-use Rattle.std.proofs.Common.{◌≡◌, ℕ, suc, ◌+◌, ◌-◌, ◌<◌, ◌≤◌, List, [], ◌∷◌, ◌++◌, length, take, drop, Bool, true, false, cond, Option, Some, None, refl, sym, ap, ◌∙◌, subst, arith, append_assoc, append-nil, length-drop}
+use Rattle.std.proofs.Common.{◌≡◌, ℕ, suc, ◌+◌, ◌-◌, ◌<◌, ◌≤◌, List, [], ◌∷◌, ◌++◌, length, take, drop, Bool, true, false, cond, Option, Some, None, refl, sym, ap, ◌∙◌, subst, arith, append_assoc, append-nil, length-drop, get_or, nat_eq, encode_utf8, encode_utf8_all}
+use Rattle.std.proofs.lemmas.List.{take_more}
+use Rattle.std.proofs.lemmas.Str.{encodes-append}
 use Rattle.std.proofs.lemmas.Bool.Decides.{nat_tests}
 use Rattle.yarn_base.specs.Name.{is_name_of}
 use Rattle.yarn_markup.specs.declared.marked.Property.{Property}
@@ -23,25 +25,23 @@ left_of (Some found) = found.rest
 
 pub past_blanks-short : (text : List ℕ) → length (past_blanks text) ≤ length text
 past_blanks-short [] = omega arith
-past_blanks-short (c ∷ cs) = by_blank (is_blank c)
+past_blanks-short (c ∷ cs) = by_blank (is_blank c) (past_blanks-short cs)
   where
-    by_blank : (b : Bool) → length (cond b (past_blanks cs) (c ∷ cs)) ≤ length (c ∷ cs)
-    by_blank true = omega (arith, past_blanks-short cs)
-    by_blank false = omega arith
+    by_blank : (b : Bool) → length (past_blanks cs) ≤ length cs → length (cond b (past_blanks cs) (c ∷ cs)) ≤ length (c ∷ cs)
+    by_blank true h = omega arith
+    by_blank false h = omega arith
 
 rest_of-before : (front : List ℕ) (o : Option Cut) → rest_of (before front o) ≡ rest_of o
 rest_of-before front None = refl
 rest_of-before front (Some cut) = refl
 
+cut_at-short : (b : Bool) (c : ℕ) (cs : List ℕ) (further : Option Cut) → length (rest_of further) ≤ length cs → length (rest_of (cond b (Some (record { own = []; rest = cs })) further)) ≤ length (c ∷ cs)
+cut_at-short true c cs further h = omega arith
+cut_at-short false c cs further h = omega arith
+
 quoted-short : (skips : Bool) (text : List ℕ) → length (rest_of (quoted skips text)) ≤ length text
 quoted-short skips [] = omega arith
-quoted-short skips (c ∷ cs) = by_end (ends_quoted skips c)
-  where
-    further : Option Cut
-    further = before (quoted_char skips c) (quoted (skips_next skips c) cs)
-    by_end : (b : Bool) → length (rest_of (cond b (Some (record { own = []; rest = cs })) further)) ≤ length (c ∷ cs)
-    by_end true = omega arith
-    by_end false = omega (arith, quoted-short (skips_next skips c) cs, ap length (rest_of-before (quoted_char skips c) (quoted (skips_next skips c) cs)))
+quoted-short skips (c ∷ cs) = cut_at-short (ends_quoted skips c) c cs (before (quoted_char skips c) (quoted (skips_next skips c) cs)) (subst (λ l. length l ≤ length cs) (sym (rest_of-before (quoted_char skips c) (quoted (skips_next skips c) cs))) (quoted-short (skips_next skips c) cs))
 
 unless_empty-short : (own rest : List ℕ) → length (rest_of (unless_empty own rest)) ≤ length rest
 unless_empty-short [] rest = omega arith
@@ -54,7 +54,11 @@ word-short text =
 
 value_at-short : (text : List ℕ) → length (rest_of (value_at text)) ≤ length text
 value_at-short [] = omega arith
-value_at-short (c ∷ cs) = ?
+value_at-short (c ∷ cs) = by_quote (nat_eq c 34)
+  where
+    by_quote : (b : Bool) → length (rest_of (cond b (quoted false cs) (word (c ∷ cs)))) ≤ length (c ∷ cs)
+    by_quote true = omega (arith, quoted-short false cs)
+    by_quote false = word-short (c ∷ cs)
 
 with_value-short : (name : List ℕ) (o : Option Cut) → left_of (with_value name o) ≡ rest_of o
 with_value-short name None = refl
@@ -62,8 +66,40 @@ with_value-short name (Some cut) = refl
 
 -- ---- properties
 
+pub assigned-short : (name text : List ℕ) → length (left_of (assigned name text)) ≤ length text
+assigned-short name [] = omega arith
+assigned-short name (c ∷ cs) = by_equals (nat_eq c 61)
+  where
+    by_equals : (b : Bool) → length (left_of (cond b (with_value name (value_at cs)) None)) ≤ length (c ∷ cs)
+    by_equals true = omega (arith, value_at-short cs, ap length (with_value-short name (value_at cs)))
+    by_equals false = omega arith
+
+assigned_name-short : (name text : List ℕ) → length (left_of (assigned_name name text)) ≤ length text
+assigned_name-short name text = by_name (is_property_name name)
+  where
+    by_name : (b : Bool) → length (left_of (cond b (assigned name text) None)) ≤ length text
+    by_name true = assigned-short name text
+    by_name false = omega arith
+
+named_property-short : (text : List ℕ) → length (left_of (named_property text)) ≤ length text
+named_property-short text =
+    let n = run_length is_word text in
+    omega (arith, assigned_name-short (take n text) (drop n text), length-drop n text)
+
+property_at-short : (c : ℕ) (cs : List ℕ) → length (left_of (property_at (c ∷ cs))) ≤ length cs
+property_at-short c cs = by_blank (is_blank c)
+  where
+    by_blank : (b : Bool) → length (left_of (cond b (named_property (past_blanks cs)) None)) ≤ length cs
+    by_blank true = omega (arith, named_property-short (past_blanks cs), past_blanks-short cs)
+    by_blank false = omega arith
+
 pub property_shorter : (text : List ℕ) (found : Found) → property_at text ≡ Some found → length found.rest < length text
-property_shorter text found e = ?
+property_shorter [] found e = absurd cc
+property_shorter (c ∷ cs) found e = omega (arith, property_at-short c cs, ap (λ o. length (left_of o)) e)
+
+pub encode_more : (cs : List ℕ) (i d : ℕ) (text : List ℕ) → i < length cs → text ≡ encode_utf8_all (take i cs) ++ encode_utf8 (get_or cs i d) → text ≡ encode_utf8_all (take (i + 1) cs)
+encode_more cs i d text h e =
+    e ∙ sym (ap encode_utf8_all (take_more cs i d h) ∙ encodes-append (take i cs) (get_or cs i d ∷ []) ∙ ap (λ l. encode_utf8_all (take i cs) ++ l) (append-nil (encode_utf8 (get_or cs i d))))
 
 -- what was put so far into the list, where the rest is what is left of the text
 pub record GoesOn (text : List ℕ) (old : List Property) (rest : List ℕ) (new : List Property) : Type 0 where

@@ -1,3 +1,7 @@
 pub mod Characters
 pub mod Tags
+pub mod Choice
+pub mod Pieces
 pub mod Steps
+pub mod Attributes
+pub mod Markup

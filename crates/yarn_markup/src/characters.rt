@@ -2,6 +2,7 @@
 ghost use Rattle.std.specs.Prelude.{◌≡◌, ◌≤◌, length, IfOk, encode_utf8_all};
 ghost use Rattle.yarn_base.specs.Name.{is_name_of, starts_name, continues_name};
 ghost use Rattle.std.specs.List.{list_all};
+ghost use Rattle.std.specs.Str.{chars};
 ghost use Rattle.unicode_ident.specs.Ident.{is_xid_continue};
 ghost use Rattle.yarn_markup.specs.Characters.{is_blank, is_word, run_length, past_blanks, is_property_name};
 
@@ -45,6 +46,14 @@ pub(crate) fn past_blanks(text: &[char]) -> &[char]
         rest = behind;
     }
     rest
+}
+
+/// The characters of a text.
+#[tactic(auto, using(std::proofs::lemmas::Str::chars_from_encodes))]
+pub(crate) fn characters_of(alloc: Global, text: &str) -> Result<Vec<char>, Memory>
+    ensures { IfOk result (λ all. all.items ≡ chars text.now) }
+{
+    Ok(text.chars().collect(alloc)?)
 }
 
 /// A text of these characters.

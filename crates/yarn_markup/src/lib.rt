@@ -2,10 +2,18 @@
 #![tactic(auto)]
 
 mod characters;
+mod choice;
 mod close;
+mod fault;
+mod filled;
+mod front;
+mod kind;
 mod marked;
+mod piece;
 mod property;
 mod tag;
 mod value;
+mod verbatim;
 
+pub use fault::MarkupFault;
 pub use marked::{Attribute, Marked, Property};

@@ -27,7 +27,7 @@ pub(crate) struct TagRead<'a> {
 
 /// The name of a tag with its shorthand, and what follows it.
 #[derive(Drop)]
-pub(crate) struct Head<'a> {
+pub(crate) struct HeadRead<'a> {
     pub name: Text,
     pub properties: List<Property>,
     pub shorthand: bool,
@@ -52,10 +52,10 @@ pub(crate) fn read_tag(alloc: Global, text: &[char]) -> Result<Option<TagRead<'_
 }
 
 // The tag behind its name.
-fn read_further(alloc: Global, head: Head<'_>) -> Result<Option<TagRead<'_>>, Memory>
+fn read_further(alloc: Global, head: HeadRead<'_>) -> Result<Option<TagRead<'_>>, Memory>
     ensures { IfOk result (IsFurtherAnswer head.entry) }
 {
-    let Head { name, mut properties, shorthand, rest } = head;
+    let HeadRead { name, mut properties, shorthand, rest } = head;
     let behind = read_properties(alloc, &mut properties, rest)?;
     match tag_end(behind) {
         Some(end) => Ok(Some(TagRead {
@@ -67,7 +67,7 @@ fn read_further(alloc: Global, head: Head<'_>) -> Result<Option<TagRead<'_>>, Me
     }
 }
 
-fn read_head(alloc: Global, text: &[char]) -> Result<Option<Head<'_>>, Memory>
+fn read_head(alloc: Global, text: &[char]) -> Result<Option<HeadRead<'_>>, Memory>
     ensures { IfOk result (IsHeadAnswer (head_at text.now)) }
 {
     let length = word_length(text);
@@ -80,7 +80,7 @@ fn read_head(alloc: Global, text: &[char]) -> Result<Option<Head<'_>>, Memory>
     }
 }
 
-fn named_head<'a>(alloc: Global, name: &[char], text: &'a [char]) -> Result<Head<'a>, Memory>
+fn named_head<'a>(alloc: Global, name: &[char], text: &'a [char]) -> Result<HeadRead<'a>, Memory>
     ensures { IfOk result (IsHead (head_of name.now text.now (assigned name.now text.now))) }
 {
     let own = text_of(alloc, name)?;
@@ -88,9 +88,9 @@ fn named_head<'a>(alloc: Global, name: &[char], text: &'a [char]) -> Result<Head
     match read_assigned(alloc, name, text)? {
         Some(read) => {
             push_property(&mut properties, read.property)?;
-            Ok(Head { name: own, properties, shorthand: true, rest: read.rest })
+            Ok(HeadRead { name: own, properties, shorthand: true, rest: read.rest })
         }
-        None => Ok(Head { name: own, properties, shorthand: false, rest: text }),
+        None => Ok(HeadRead { name: own, properties, shorthand: false, rest: text }),
     }
 }
 

@@ -1,0 +1,30 @@
+//! The text of `[nomarkup]`, up to its end.
+ghost use Rattle.std.specs.Prelude.{◌≡◌, IfOk};
+ghost use Rattle.yarn_markup.specs.Pieces.{verbatim};
+ghost use Rattle.yarn_markup.specs.Steps.{IsValueAnswer};
+
+use crate::value::ValueRead;
+use std::alloc::Global;
+use yarn_base::{Memory, Text};
+
+const END: [char; 11] = ['[', '/', 'n', 'o', 'm', 'a', 'r', 'k', 'u', 'p', ']'];
+
+/// The text before the first `[/nomarkup]`, and what follows that.
+#[tactic(auto, using(crate::proofs::ReadingLemmas::before_before))]
+pub(crate) fn read_verbatim(alloc: Global, text: &[char]) -> Result<Option<ValueRead<'_>>, Memory>
+    ensures { IfOk result (IsValueAnswer (verbatim text.now)) }
+{
+    let mut value = Text::from_str(alloc, "")?;
+    let mut rest = text;
+    while let [c, behind @ ..] = rest {
+        if rest.starts_with(&END) {
+            return Ok(Some(ValueRead {
+                value,
+                rest: &rest[11..],
+            }));
+        }
+        value.push_char(*c)?;
+        rest = behind;
+    }
+    Ok(None)
+}
