@@ -1,2 +1,5 @@
 pub mod ReadingLemmas
 pub mod TagLemmas
+pub mod PieceLemmas
+pub mod LengthLemmas
+pub mod SlotLemmas

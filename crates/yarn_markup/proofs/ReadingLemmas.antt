@@ -31,7 +31,7 @@ past_blanks-short (c ∷ cs) = by_blank (is_blank c) (past_blanks-short cs)
     by_blank true h = omega arith
     by_blank false h = omega arith
 
-rest_of-before : (front : List ℕ) (o : Option Cut) → rest_of (before front o) ≡ rest_of o
+pub rest_of-before : (front : List ℕ) (o : Option Cut) → rest_of (before front o) ≡ rest_of o
 rest_of-before front None = refl
 rest_of-before front (Some cut) = refl
 

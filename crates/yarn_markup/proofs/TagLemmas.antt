@@ -59,3 +59,32 @@ tag_of_further text head begins (Some read) is = record {
   ends = is.ends;
   own = is.own;
 }
+
+abbrev end_of : Bool → List ℕ → End
+end_of lone rest = record { lone = lone; rest = rest }
+
+abbrev tag_of : Head → List Property → Tag
+tag_of head further = record { name = head.name; properties = head.properties ++ further; shorthand = head.shorthand }
+
+pub record SameTag (a b : Tag) (lone one : Bool) (rest behind : List ℕ) : Type 0 where
+  pub own : a ≡ b
+  pub lone_is : lone ≡ one
+  pub rest_is : rest ≡ behind
+
+same_end : (lone one : Bool) (rest behind : List ℕ) → Some (end_of lone rest) ≡ Some (end_of one behind) → (lone ≡ one) × (rest ≡ behind)
+same_end lone one rest behind e =
+    let same : end_of lone rest ≡ end_of one behind = cc in
+    (ap (λ (x : End). x.lone) same, ap (λ (x : End). x.rest) same)
+
+-- the characters behind a `[` are one tag at most
+pub tags_once : {text rest behind : List ℕ} {a b : Tag} {lone one : Bool} → IsTag text a lone rest → IsTag text b one behind → SameTag a b lone one rest behind
+tags_once {rest = rest} {behind = behind} {lone = lone} {one = one} a b =
+    let heads : a.head ≡ b.head = (let e = a.begins in let f = b.begins in cc (e, f)) in
+    let same = properties_once (subst (λ (h : Head). Properties h.rest a.further a.behind) heads a.goes) b.goes in
+    let ends = same_end lone one rest behind (sym a.ends ∙ ap end_at same.rest_is ∙ b.ends) in
+    let Named : Head → Type 0 = λ (h : Head). tag_of a.head a.further ≡ tag_of h b.further in
+    record {
+      own = a.own ∙ subst Named heads (ap (λ (ps : List Property). tag_of a.head ps) same.own) ∙ sym b.own;
+      lone_is = ends.0;
+      rest_is = ends.1;
+    }

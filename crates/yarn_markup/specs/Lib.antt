@@ -4,4 +4,5 @@ pub mod Choice
 pub mod Pieces
 pub mod Steps
 pub mod Attributes
+pub mod Slots
 pub mod Markup

@@ -52,12 +52,18 @@ abbrev pub step_to : List ℕ → Option Piece → Option Step
 step_to rest None = None
 step_to rest (Some piece) = Some (record { piece = piece; rest = rest })
 
--- the text up to the first `[/nomarkup]`
+-- what follows the `[/nomarkup]` at the front
+abbrev pub past_end : List ℕ → Option (List ℕ)
+past_end text = if starts_with nat_eq text (codes "[/nomarkup]") then Some (drop 11 text) else None
+
+abbrev pub ended : Option (List ℕ) → Option Cut → Option Cut
+ended None further = further
+ended (Some rest) further = Some (record { own = []; rest = rest })
+
+-- the text up to the first `[/nomarkup]`, and what follows that
 abbrev pub verbatim : List ℕ → Option Cut
 verbatim [] = None
-verbatim (c ∷ cs) =
-    if starts_with nat_eq (c ∷ cs) (codes "[/nomarkup]") then Some (record { own = []; rest = drop 11 (c ∷ cs) })
-    else before (encode_utf8 c) (verbatim cs)
+verbatim (c ∷ cs) = ended (past_end (c ∷ cs)) (before (encode_utf8 c) (verbatim cs))
 
 abbrev pub verbatim_step : Option Cut → Option Step
 verbatim_step None = None

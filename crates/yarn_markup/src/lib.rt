@@ -1,6 +1,7 @@
 //! Markup in texts: the plain text of a line, and its attributes.
 #![tactic(auto)]
 
+mod character;
 mod characters;
 mod choice;
 mod close;
@@ -11,6 +12,8 @@ mod kind;
 mod marked;
 mod piece;
 mod property;
+mod reading;
+mod slot;
 mod tag;
 mod value;
 mod verbatim;

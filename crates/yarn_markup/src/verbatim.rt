@@ -1,6 +1,6 @@
 //! The text of `[nomarkup]`, up to its end.
-ghost use Rattle.std.specs.Prelude.{◌≡◌, IfOk};
-ghost use Rattle.yarn_markup.specs.Pieces.{verbatim};
+ghost use Rattle.std.specs.Prelude.{◌≡◌, IfOk, MatchOption, None, Some};
+ghost use Rattle.yarn_markup.specs.Pieces.{past_end, verbatim};
 ghost use Rattle.yarn_markup.specs.Steps.{IsValueAnswer};
 
 use crate::value::ValueRead;
@@ -17,14 +17,22 @@ pub(crate) fn read_verbatim(alloc: Global, text: &[char]) -> Result<Option<Value
     let mut value = Text::from_str(alloc, "")?;
     let mut rest = text;
     while let [c, behind @ ..] = rest {
-        if rest.starts_with(&END) {
-            return Ok(Some(ValueRead {
-                value,
-                rest: &rest[11..],
-            }));
+        if let Some(after) = past_end(rest) {
+            return Ok(Some(ValueRead { value, rest: after }));
         }
         value.push_char(*c)?;
         rest = behind;
     }
     Ok(None)
+}
+
+// What follows the `[/nomarkup]` at the front.
+fn past_end(text: &[char]) -> Option<&[char]>
+    ensures { MatchOption result (past_end text.now ≡ None) (λ rest. past_end text.now ≡ Some rest.now) }
+{
+    if text.starts_with(&END) {
+        Some(&text[END.len()..])
+    } else {
+        None
+    }
 }
