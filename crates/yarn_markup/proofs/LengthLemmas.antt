@@ -1,5 +1,6 @@
 -- What follows a piece is shorter than the text that begins with it.
-use Rattle.std.proofs.Common.{◌≡◌, ℕ, ◌+◌, ◌-◌, ◌<◌, ◌≤◌, List, [], ◌∷◌, length, take, drop, Bool, true, false, cond, nat_eq, Option, Some, None, refl, sym, ap, ◌∙◌, subst, arith, length-drop, encode_utf8, encode_utf8_all}
+use Rattle.std.proofs.Common.{◌≡◌, ℕ, ◌+◌, ◌-◌, ◌<◌, ◌≤◌, List, [], ◌∷◌, length, take, drop, Bool, true, false, cond, nat_eq, Option, Some, None, refl, sym, ap, ◌∙◌, subst, arith, length-drop, encode_utf8, encode_utf8_all, codes}
+use Rattle.std.specs.List.{starts_with}
 use Rattle.yarn_base.specs.Name.{is_name_of}
 use Rattle.yarn_plural.specs.declared.table.PluralTable.{PluralTable}
 use Rattle.yarn_plural.specs.declared.table.Form.{Form}
@@ -151,7 +152,11 @@ step_to-short rest None = omega arith
 step_to-short rest (Some piece) = omega arith
 
 past_end-short : (text : List ℕ) → length (bracket_rest (past_end text)) ≤ length text
-past_end-short text = ?
+past_end-short text = by_end (starts_with nat_eq text (codes "[/nomarkup]"))
+  where
+    by_end : (b : Bool) → length (bracket_rest (cond b (Some (drop 11 text)) None)) ≤ length text
+    by_end true = omega (arith, length-drop 11 text)
+    by_end false = omega arith
 
 ended-short : (o : Option (List ℕ)) (further : Option Cut) (n : ℕ) → length (bracket_rest o) ≤ n → length (rest_of further) ≤ n → length (rest_of (ended o further)) ≤ n
 ended-short None further n h g = g

@@ -24,7 +24,7 @@ no_opening plural inside open_tag nothing piece rest (closes close e) = absurd c
 no_opening plural inside open_tag nothing piece rest (tag own lone behind step n is m) = nothing own lone behind is
 
 -- a tag that is the same has the same meaning
-same_meaning : (plural : PluralTable) (a b : Tag) (lone one : Bool) (rest behind : List ℕ) → SameTag a b lone one rest behind →
+pub same_meaning : (plural : PluralTable) (a b : Tag) (lone one : Bool) (rest behind : List ℕ) → SameTag a b lone one rest behind →
     meaning plural (kind_of a.name) a lone rest ≡ meaning plural (kind_of b.name) b one behind
 same_meaning plural a b lone one rest behind same =
     ap (λ (t : Tag). meaning plural (kind_of t.name) t lone rest) same.own

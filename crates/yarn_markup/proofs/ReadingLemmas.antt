@@ -7,11 +7,31 @@ use Rattle.yarn_base.specs.Name.{is_name_of}
 use Rattle.yarn_markup.specs.declared.marked.Property.{Property}
 use Rattle.yarn_markup.specs.Characters.{is_blank, is_word, run_length, past_blanks, is_property_name}
 use Rattle.yarn_markup.specs.Tags.{Cut, before, ends_quoted, skips_next, quoted_char, quoted, unless_empty, word, value_at, Found, with_value, assigned, assigned_name, named_property, property_at, Properties, none, more}
+use Rattle.yarn_markup.specs.Pieces.{past_end, ended, verbatim}
 use Rattle.yarn_markup.specs.Steps.{AddsProperties}
+
+abbrev cut_of : List ℕ → List ℕ → Cut
+cut_of own rest = record { own = own; rest = rest }
 
 pub before_before : (a b : List ℕ) (o : Option Cut) → before a (before b o) ≡ before (a ++ b) o
 before_before a b None = refl
 before_before a b (Some cut) = rw append_assoc refl
+
+-- the text of `[nomarkup]` goes on where its end isn't at the front
+pub verbatim_goes : (text value rest behind grown : List ℕ) (c : ℕ) → verbatim text ≡ before value (verbatim rest) → rest ≡ c ∷ behind → past_end rest ≡ None →
+    grown ≡ value ++ encode_utf8 c → verbatim text ≡ before grown (verbatim behind)
+verbatim_goes text value rest behind grown c so_far is going push =
+    so_far ∙ ap (λ (l : List ℕ). before value (verbatim l)) is
+    ∙ ap (λ (o : Option (List ℕ)). before value (ended o (before (encode_utf8 c) (verbatim behind)))) (ap past_end (sym is) ∙ going)
+    ∙ before_before value (encode_utf8 c) (verbatim behind)
+    ∙ ap (λ (l : List ℕ). before l (verbatim behind)) (sym push)
+
+pub verbatim_ends : (text value rest behind after : List ℕ) (c : ℕ) → verbatim text ≡ before value (verbatim rest) → rest ≡ c ∷ behind → past_end rest ≡ Some after →
+    verbatim text ≡ Some (record { own = value; rest = after })
+verbatim_ends text value rest behind after c so_far is ending =
+    so_far ∙ ap (λ (l : List ℕ). before value (verbatim l)) is
+    ∙ ap (λ (o : Option (List ℕ)). before value (ended o (before (encode_utf8 c) (verbatim behind)))) (ap past_end (sym is) ∙ ending)
+    ∙ ap (λ (l : List ℕ). Some (cut_of l after)) (append-nil value)
 
 -- ---- what is left is shorter
 

@@ -1,6 +1,7 @@
 -- What is kept goes on as the pieces say: each piece taken in leaves the same outcome.
 use Rattle.std.proofs.Common.{◌≡◌, ℕ, zero, suc, ◌+◌, ◌-◌, ◌<◌, ◌≤◌, List, [], ◌∷◌, ◌++◌, length, drop, get_or, map, Bool, true, false, not, cond, nat_eq, ◌||◌, Option, Some, None, refl, sym, ap, ◌∙◌, subst, arith, zero-add, add-zero, append_assoc, append-nil, encode_utf8, codes}
 use Rattle.std.specs.Str.{chars}
+use Rattle.std.proofs.Math.ListN.{set}
 use Rattle.std.proofs.lemmas.Slice.Eq.{bytes_eq-Decides}
 use Rattle.std.proofs.lemmas.Bool.Decides.{nat_tests}
 use Rattle.yarn_value.specs.Operations.{same_text}
@@ -368,3 +369,100 @@ fails_all k at e = λ items. ap (λ (b : Bool). cond b (fault [] items) (Some (B
 pub finished : (k : Kept) → left_open (open_slots k.slots) ≡ None →
     outcome k [] ≡ outcome_of k.plain (k.attributes ++ map (ended_at k.count) k.slots) None
 finished k e = same_outcome _ _ _ _ _ _ (append-nil k.plain) (ap (λ (xs : List Attribute). k.attributes ++ xs) (completed_end k.count k.slots)) e
+
+-- ---- the same, where what is kept is only known to be that
+
+abbrev pub kept_of : List ℕ → ℕ → List Attribute → List Slot → Kept
+kept_of plain count xs slots = record { plain = plain; count = count; attributes = xs; slots = slots }
+
+takes_same : (k : Kept) (at : ℕ) (piece : Piece) (plain new_plain : List ℕ) (count new_count : ℕ) (xs ys : List Attribute) (ss ts : List Slot) →
+    Takes k at piece (kept_of plain count xs ss) → new_plain ≡ plain → new_count ≡ count → ys ≡ xs → ts ≡ ss →
+    Takes k at piece (kept_of new_plain new_count ys ts)
+takes_same k at piece plain new_plain count new_count xs ys ss ts h e f g i =
+    subst (λ (x : List ℕ). Takes k at piece (kept_of x new_count ys ts)) (sym e)
+    (subst (λ (x : ℕ). Takes k at piece (kept_of plain x ys ts)) (sym f)
+    (subst (λ (x : List Attribute). Takes k at piece (kept_of plain count x ts)) (sym g)
+    (subst (λ (x : List Slot). Takes k at piece (kept_of plain count xs x)) (sym i) h)))
+
+pub stands_taken : (k : Kept) (c at : ℕ) (plain : List ℕ) (count : ℕ) → plain ≡ k.plain ++ encode_utf8 c → count ≡ k.count + 1 →
+    Takes k at (Stands c) (kept_of plain count k.attributes k.slots)
+stands_taken k c at plain count e f = takes_same k at (Stands c) _ _ _ _ _ _ _ _ (taken_stands k c at) e f refl refl
+
+pub given_taken : (k : Kept) (text : List ℕ) (at : ℕ) (plain : List ℕ) (count : ℕ) → plain ≡ k.plain ++ text → count ≡ k.count + length (chars text) →
+    Takes k at (Given text) (kept_of plain count k.attributes k.slots)
+given_taken k text at plain count e f = takes_same k at (Given text) _ _ _ _ _ _ _ _ (taken_given k text at) e f refl refl
+
+pub opens_taken : (k : Kept) (own : Tag) (at : ℕ) (slots : List Slot) → slots ≡ k.slots ++ slot_of own.name k.count None own.properties at ∷ [] →
+    Takes k at (Opens own) (kept_of k.plain k.count k.attributes slots)
+opens_taken k own at slots e = takes_same k at (Opens own) _ _ _ _ _ _ _ _ (taken_opens k own at) refl refl refl e
+
+pub lone_taken : (k : Kept) (own : Tag) (at : ℕ) (slots : List Slot) → slots ≡ k.slots ++ slot_of own.name k.count (Some 0) own.properties at ∷ [] →
+    Takes k at (Lone own) (kept_of k.plain k.count k.attributes slots)
+lone_taken k own at slots e = takes_same k at (Lone own) _ _ _ _ _ _ _ _ (taken_lone k own at) refl refl refl e
+
+pub verbatim_taken : (k mid : Kept) (text name : List ℕ) (properties : List Property) (at n : ℕ) (slots : List Slot) →
+    mid ≡ kept_of (k.plain ++ text) (k.count + length (chars text)) k.attributes k.slots → n ≡ mid.count - k.count →
+    name ≡ codes "nomarkup" → properties ≡ [] → slots ≡ mid.slots ++ slot_of name k.count (Some n) properties at ∷ [] →
+    Takes k at (Verbatim text) (kept_of mid.plain mid.count mid.attributes slots)
+verbatim_taken k mid text name properties at n slots e f named empty g =
+    let count : mid.count ≡ k.count + length (chars text) = ap (λ (m : Kept). m.count) e in
+    let size : n ≡ length (chars text) = omega (arith, f, count) in
+    takes_same k at (Verbatim text) _ _ _ _ _ _ _ _ (taken_verbatim k text at n size)
+      (ap (λ (m : Kept). m.plain) e) count (ap (λ (m : Kept). m.attributes) e)
+      (g ∙ ap (λ (m : Kept). m.slots ++ slot_of name k.count (Some n) properties at ∷ []) e
+        ∙ ap (λ (x : List ℕ). k.slots ++ slot_of x k.count (Some n) properties at ∷ []) named
+        ∙ ap (λ (x : List Property). k.slots ++ slot_of (codes "nomarkup") k.count (Some n) x at ∷ []) empty)
+
+pub closes_taken : (k : Kept) (name : List ℕ) (at : ℕ) (slots : List Slot) → true ≡ not (nat_eq (open_count name k.slots) 0) →
+    slots ≡ close_latest name k.count k.slots → Takes k at (Closes name) (kept_of k.plain k.count k.attributes slots)
+closes_taken k name at slots found e = takes_same k at (Closes name) _ _ _ _ _ _ _ _ (taken_closes k name at found) refl refl refl e
+
+pub all_taken : (k : Kept) (at : ℕ) (xs : List Attribute) (slots : List Slot) → true ≡ is_some_open (open_slots k.slots) →
+    xs ≡ k.attributes ++ map (ended_at k.count) k.slots → slots ≡ [] → Takes k at ClosesAll (kept_of k.plain k.count xs slots)
+all_taken k at xs slots some e f = takes_same k at ClosesAll _ _ _ _ _ _ _ _ (taken_all k at some) refl refl e f
+
+pub finish_found : (k : Kept) (xs : List Attribute) → left_open (open_slots k.slots) ≡ None → xs ≡ k.attributes ++ map (ended_at k.count) k.slots →
+    outcome k [] ≡ outcome_of k.plain xs None
+finish_found k xs none e = finished k none ∙ ap (λ (x : List Attribute). outcome_of k.plain x None) (sym e)
+
+-- ---- the latest open attribute of a name
+
+pub latest_here : (name : List ℕ) (ss : List Slot) (k : ℕ) (s : Slot) → k < length ss → open_count name (drop (k + 1) ss) ≡ 0 → s ≡ get_or ss k s → counts name s ≡ 1 → IsLatest name ss k
+latest_here name [] k s h e f g = absurd (omega arith)
+latest_here name (x ∷ ss) zero s h e f g = (sym (ap (counts name) f) ∙ g, e)
+latest_here name (x ∷ ss) (suc k) s h e f g =
+    let next : suc k + 1 ≡ suc (k + 1) = omega arith in
+    let later : open_count name (drop (suc (k + 1)) (x ∷ ss)) ≡ 0 = subst (λ (m : ℕ). open_count name (drop m (x ∷ ss)) ≡ 0) next e in
+    latest_here name ss k s (omega arith) later f g
+
+pub latest_found : (name : List ℕ) (ss : List Slot) (at n : ℕ) (s : Slot) → 0 < at → at ≤ length ss → n ≡ at - 1 → open_count name (drop at ss) ≡ 0 → s ≡ get_or ss n s → nat_eq (counts name s) 1 ≡ true → IsLatest name ss n
+latest_found name ss at n s h i j e f g =
+    let same : at ≡ n + 1 = omega arith in
+    let one : counts name s ≡ 1 = is_one_of (counts name s) g in
+    latest_here name ss n s (omega arith) (subst (λ (m : ℕ). open_count name (drop m ss) ≡ 0) same e) f one
+  where
+    is_one_of : (m : ℕ) → nat_eq m 1 ≡ true → m ≡ 1
+    is_one_of m e = grind (arith, nat_tests)
+
+latest_counts : (name : List ℕ) (ss : List Slot) (k : ℕ) → IsLatest name ss k → 0 < open_count name ss
+latest_counts name [] k h = absurd h
+latest_counts name (x ∷ ss) zero h = omega (arith, h.0)
+latest_counts name (x ∷ ss) (suc k) h = omega (arith, latest_counts name ss k h)
+
+pub latest_open : (name : List ℕ) (ss : List Slot) (k : ℕ) → IsLatest name ss k → true ≡ not (nat_eq (open_count name ss) 0)
+latest_open name ss k h = sym (ap not (pos-eq (open_count name ss) (latest_counts name ss k h)))
+
+pub none_latest : (name : List ℕ) (now : ℕ) (ss : List Slot) → open_count name ss ≡ 0 → ss ≡ close_latest name now ss
+none_latest name now ss e = sym (close_none name now ss e)
+
+pub set_latest : (name : List ℕ) (now : ℕ) (ss : List Slot) (k : ℕ) (s t : Slot) (n : ℕ) → IsLatest name ss k → s ≡ get_or ss k s → t ≡ get_or ss k t → n ≡ now - t.start →
+    set ss k (slot_of s.name s.start (Some n) s.properties s.at) ≡ close_latest name now ss
+set_latest name now [] k s t n h e f g = absurd h
+set_latest name now (x ∷ ss) zero s t n h e f g =
+    ap (λ (y : Slot). slot_of y.name y.start (Some n) y.properties y.at ∷ ss) e
+    ∙ ap (λ (m : ℕ). slot_of x.name x.start (Some m) x.properties x.at ∷ ss) (g ∙ ap (λ (y : Slot). now - y.start) f)
+    ∙ sym (ap (λ (b : Bool). cond b (cond (nat_eq (counts name x) 0) x (closed_at now x) ∷ ss) (x ∷ close_latest name now ss)) (zero-eq (open_count name ss) h.1)
+      ∙ ap (λ (b : Bool). cond b x (closed_at now x) ∷ ss) (pos-eq (counts name x) (omega (arith, h.0))))
+set_latest name now (x ∷ ss) (suc k) s t n h e f g =
+    ap (λ (l : List Slot). x ∷ l) (set_latest name now ss k s t n h e f g)
+    ∙ sym (ap (λ (b : Bool). cond b (cond (nat_eq (counts name x) 0) x (closed_at now x) ∷ ss) (x ∷ close_latest name now ss)) (pos-eq (open_count name ss) (latest_counts name ss k h)))

@@ -60,10 +60,10 @@ tag_of_further text head begins (Some read) is = record {
   own = is.own;
 }
 
-abbrev end_of : Bool → List ℕ → End
+abbrev pub end_of : Bool → List ℕ → End
 end_of lone rest = record { lone = lone; rest = rest }
 
-abbrev tag_of : Head → List Property → Tag
+abbrev pub tag_of : Head → List Property → Tag
 tag_of head further = record { name = head.name; properties = head.properties ++ further; shorthand = head.shorthand }
 
 pub record SameTag (a b : Tag) (lone one : Bool) (rest behind : List ℕ) : Type 0 where

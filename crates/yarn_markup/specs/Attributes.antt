@@ -79,27 +79,31 @@ attributes now (At at Lacks ∷ items) = attributes now items
 abbrev pub is_speaker : ℕ → Bool
 is_speaker c = not (nat_eq c 58 || (nat_eq c 91 || (nat_eq c 93 || nat_eq c 92)))
 
--- a colon and a blank
-abbrev pub begins_speech : List ℕ → Bool
-begins_speech [] = false
-begins_speech (c ∷ []) = false
-begins_speech (c ∷ d ∷ cs) = nat_eq c 58 && is_blank d
+abbrev pub begins_blank : List ℕ → Bool
+begins_blank [] = false
+begins_blank (c ∷ cs) = is_blank c
 
-abbrev pub character_of : List ℕ → List ℕ → List Attribute
-character_of [] behind = []
-character_of (c ∷ name) behind =
-    if begins_speech behind then
-      record {
-        name = codes "character";
-        start = 0;
-        length = length (c ∷ name) + 1 + run_length is_blank (drop 1 behind);
-        properties = record { name = codes "name"; value = encode_utf8_all (c ∷ name) } ∷ []
-      } ∷ []
-    else []
+-- what follows the colon at the front, where that is a blank
+abbrev pub past_colon : List ℕ → Option (List ℕ)
+past_colon [] = None
+past_colon (c ∷ cs) = if nat_eq c 58 && begins_blank cs then Some cs else None
+
+abbrev pub character_with : List ℕ → Option (List ℕ) → List Attribute
+character_with name None = []
+character_with name (Some behind) =
+    record {
+      name = codes "character";
+      start = 0;
+      length = length name + 1 + run_length is_blank behind;
+      properties = record { name = codes "name"; value = encode_utf8_all name } ∷ []
+    } ∷ []
+
+abbrev pub character_of : ℕ → List ℕ → List Attribute
+character_of n text = if nat_eq n 0 then [] else character_with (take n text) (past_colon (drop n text))
 
 -- the attribute over the name, the colon and the blanks at the front of the text, where these stand there
 abbrev pub character_at : List ℕ → List Attribute
-character_at text = let n = run_length is_speaker text in character_of (take n text) (drop n text)
+character_at text = character_of (run_length is_speaker text) text
 
 -- ---- faults
 

@@ -6,3 +6,4 @@ pub mod Steps
 pub mod Attributes
 pub mod Slots
 pub mod Markup
+pub mod Plain

@@ -1,7 +1,7 @@
 //! The attribute `character` over the name of who speaks, at the front of a text.
-ghost use Rattle.std.specs.Prelude.{◌≡◌, ◌≤◌, ◌<◌, ◌++◌, length, IfOk, OnOk, true};
+ghost use Rattle.std.specs.Prelude.{◌≡◌, ◌≤◌, length, IfOk, MatchOption, None, Some};
 ghost use Rattle.yarn_markup.specs.Characters.{is_blank as blank, run_length};
-ghost use Rattle.yarn_markup.specs.Attributes.{is_speaker, begins_speech, character_at, character_of};
+ghost use Rattle.yarn_markup.specs.Attributes.{is_speaker, begins_blank, past_colon, character_at, character_with};
 
 use crate::characters::{is_blank, text_of};
 use crate::property::push_property;
@@ -12,27 +12,20 @@ use yarn_base::{List, Memory, Text};
 
 /// The attribute, where the text begins with a name, a colon and a blank.
 pub(crate) fn read_character(alloc: Global, text: &[char]) -> Result<List<Attribute>, Memory>
-    ensures { IfOk result (λ attributes. attributes ≡ character_at text.now) }
+    ensures { IfOk result (λ all. all ≡ character_at text.now) }
 {
     let length = name_length(text);
-    let name = &text[..length];
-    let behind = &text[length..];
-    let mut attributes = List::new(alloc);
-    if length > 0 && begins_speech(behind) {
-        push_character(alloc, &mut attributes, name, behind)?;
+    if length == 0 {
+        return Ok(List::new(alloc));
     }
-    Ok(attributes)
+    match past_colon(&text[length..]) {
+        Some(behind) => character(alloc, &text[..length], behind),
+        None => Ok(List::new(alloc)),
+    }
 }
 
-fn push_character(
-    alloc: Global,
-    attributes: &mut List<Attribute>,
-    name: &[char],
-    behind: &[char],
-) -> Result<(), Memory>
-    requires some { 0 < length name.now }
-    requires speech { begins_speech behind.now ≡ true }
-    ensures { OnOk result (attributes.new ≡ attributes.old ++ character_of name.now behind.now) }
+fn character(alloc: Global, name: &[char], behind: &[char]) -> Result<List<Attribute>, Memory>
+    ensures { IfOk result (λ all. all ≡ character_with name.now (Some behind.now)) }
 {
     let mut properties = List::new(alloc);
     let property = Property {
@@ -43,10 +36,31 @@ fn push_character(
     let attribute = Attribute {
         name: Text::from_str(alloc, "character")?,
         start: 0,
-        length: (name.len() + 1 + blanks_length(&behind[1..])) as u64,
+        length: (name.len() + 1 + blanks_length(behind)) as u64,
         properties,
     };
-    push_attribute(attributes, attribute)
+    let mut all = List::new(alloc);
+    push_attribute(&mut all, attribute)?;
+    Ok(all)
+}
+
+// What follows the colon at the front, where that is a blank.
+fn past_colon(text: &[char]) -> Option<&[char]>
+    ensures { MatchOption result (past_colon text.now ≡ None) (λ rest. past_colon text.now ≡ Some rest.now) }
+{
+    match text {
+        [':', rest @ ..] if begins_blank(rest) => Some(rest),
+        _ => None,
+    }
+}
+
+fn begins_blank(text: &[char]) -> bool
+    ensures { result ≡ begins_blank text.now }
+{
+    match text {
+        [c, ..] => is_blank(*c),
+        [] => false,
+    }
 }
 
 // How many characters stand before a `:`, `[`, `]` or `\`.
@@ -66,15 +80,6 @@ fn is_speaker(c: char) -> bool
     ensures { result ≡ is_speaker c }
 {
     !(c == ':' || c == '[' || c == ']' || c == '\\')
-}
-
-fn begins_speech(text: &[char]) -> bool
-    ensures { result ≡ begins_speech text.now }
-{
-    match text {
-        [colon, blank, ..] => *colon == ':' && is_blank(*blank),
-        _ => false,
-    }
 }
 
 fn blanks_length(text: &[char]) -> usize

@@ -1,5 +1,5 @@
 //! Runs of characters at the front of a text, and texts and names made of them.
-ghost use Rattle.std.specs.Prelude.{◌≡◌, ◌≤◌, length, IfOk, encode_utf8_all};
+ghost use Rattle.std.specs.Prelude.{◌≡◌, ◌≤◌, ◌∷◌, [], length, IfOk, MatchOption, encode_utf8_all};
 ghost use Rattle.yarn_base.specs.Name.{is_name_of, starts_name, continues_name};
 ghost use Rattle.std.specs.List.{list_all};
 ghost use Rattle.std.specs.Str.{chars};
@@ -54,6 +54,16 @@ pub(crate) fn characters_of(alloc: Global, text: &str) -> Result<Vec<char>, Memo
     ensures { IfOk result (λ all. all.items ≡ chars text.now) }
 {
     Ok(text.chars().collect(alloc)?)
+}
+
+/// The first character, and what follows it.
+pub(crate) fn first_in(text: &[char]) -> Option<(char, &[char])>
+    ensures { MatchOption result (text.now ≡ []) (λ p. text.now ≡ p.0 ∷ p.1.now) }
+{
+    match text {
+        [c, rest @ ..] => Some((*c, rest)),
+        [] => None,
+    }
 }
 
 /// A text of these characters.

@@ -9,7 +9,9 @@ mod fault;
 mod filled;
 mod front;
 mod kind;
+mod laws;
 mod marked;
+mod markup;
 mod piece;
 mod property;
 mod reading;
@@ -19,4 +21,6 @@ mod value;
 mod verbatim;
 
 pub use fault::MarkupFault;
+pub use laws::{each_answered, none_refused, one_fault, one_reading};
 pub use marked::{Attribute, Marked, Property};
+pub use markup::read_markup;

@@ -5,11 +5,10 @@ ghost use Rattle.yarn_markup.specs.Slots.{kept, Takes, TakesOr, Finishes};
 
 use crate::characters::characters_of;
 use crate::piece::Piece;
-use crate::slot::{Slot, close_latest, end_all, first_open, is_some_open};
+use crate::slot::{Slot, close_latest, end_all, first_open, is_some_open, take_all};
 use crate::tag::Tag;
 use crate::{Attribute, Marked, MarkupFault};
 use std::alloc::Global;
-use std::mem;
 use yarn_base::{List, Memory, Text};
 
 /// The plain text so far, how many characters it has, and its attributes: those before the first that is open, and
@@ -68,8 +67,9 @@ impl Reading {
     fn stands(&mut self, c: char) -> Result<(), Memory>
         ensures { OnOk result ((at : ℕ) → Takes (kept self.old) at (Piece.Stands c) (kept self.new)) }
     {
-        self.count = self.count.checked_add(1).ok_or(Memory)?;
-        self.plain.push_char(c)
+        self.count = longer(self.count, 1)?;
+        self.plain.push_char(c)?;
+        Ok(())
     }
 
     fn shows(&mut self, alloc: Global, text: &Text) -> Result<(), Memory>
@@ -77,8 +77,9 @@ impl Reading {
         ensures taken { OnOk result ((at : ℕ) → Takes (kept self.old) at (Piece.Given text.now) (kept self.new)) }
     {
         let more = characters_of(alloc, text.as_str())?.len() as u64;
-        self.count = self.count.checked_add(more).ok_or(Memory)?;
-        self.plain.push_str(text.as_str())
+        self.count = longer(self.count, more)?;
+        self.plain.push_str(text.as_str())?;
+        Ok(())
     }
 
     fn opens(&mut self, at: u32, tag: Tag) -> Result<(), Memory>
@@ -141,7 +142,7 @@ impl Reading {
         if !is_some_open(self.slots.as_slice()) {
             return Err(MarkupFault::BadMarkup(at));
         }
-        let slots = mem::replace(&mut self.slots, Vec::new(alloc));
+        let slots = take_all(alloc, &mut self.slots);
         end_all(slots, self.count, &mut self.attributes)?;
         Ok(())
     }
@@ -162,4 +163,11 @@ impl Reading {
         end_all(slots, count, &mut attributes)?;
         Ok(Marked { plain, attributes })
     }
+}
+
+// How many characters there are with so many more. A text of more can't be in memory.
+fn longer(count: u64, more: u64) -> Result<u64, Memory>
+    ensures { IfOk result (λ sum. sum ≡ count + more) }
+{
+    count.checked_add(more).ok_or(Memory)
 }

@@ -4,6 +4,8 @@ ghost use Rattle.yarn_markup.specs.Attributes.{is_some_open, left_open};
 ghost use Rattle.yarn_markup.specs.Slots.{counts, open_count, open_slots, close_latest, IsLatest, ended_at, length_at};
 
 use crate::{Attribute, MarkupFault, Property};
+use std::alloc::Global;
+use std::mem;
 use yarn_base::{List, Memory, Text};
 
 /// An attribute, which is open where its length isn't known.
@@ -70,6 +72,14 @@ pub(crate) fn first_open(slots: &[Slot]) -> Option<u32>
         }
     }
     None
+}
+
+/// Takes all, and leaves none.
+pub(crate) fn take_all(alloc: Global, slots: &mut Vec<Slot>) -> Vec<Slot>
+    ensures all { result.items ≡ slots.old.items }
+    ensures none { slots.new.items ≡ [] }
+{
+    mem::replace(slots, Vec::new(alloc))
 }
 
 /// Puts all into the list; those that are open end at that place.
