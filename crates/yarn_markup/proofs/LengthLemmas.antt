@@ -197,3 +197,7 @@ pub piece-shorter : (plural : PluralTable) (text : List ℕ) (piece : Piece) (re
 piece-shorter plural text piece rest (character c behind e) = front-shorter text (Character c behind) e (λ h. absurd cc)
 piece-shorter plural text piece rest (bracket inside own after e is) =
     omega (arith, front-shorter text (Bracket inside) e (λ h. absurd cc), bracketed-short plural inside own after is)
+
+pub no_characters : (text : List ℕ) → length text ≡ 0 → text ≡ []
+no_characters [] e = refl
+no_characters (c ∷ cs) e = absurd (omega arith)

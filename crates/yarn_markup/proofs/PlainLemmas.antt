@@ -2,7 +2,7 @@
 use Rattle.std.proofs.Common.{◌≡◌, ℕ, zero, suc, ◌+◌, ◌-◌, ◌<◌, ◌≤◌, List, [], ◌∷◌, ◌++◌, length, take, drop, Bool, true, false, not, cond, nat_eq, ◌||◌, ◌&&◌, Option, Some, None, Ok, IsUtf8, refl, sym, ap, ◌∙◌, subst, arith, encode_utf8, encode_utf8_all}
 use Rattle.std.specs.Str.{chars}
 use Rattle.std.specs.List.{list_all}
-use Rattle.std.proofs.lemmas.Str.{encodes-chars}
+use Rattle.std.proofs.lemmas.Str.{encodes-chars, length-le-encodes}
 use Rattle.std.proofs.lemmas.Bool.Decides.{nat_tests}
 use Rattle.yarn_plural.specs.declared.table.PluralTable.{PluralTable}
 use Rattle.yarn_markup.specs.declared.marked.Attribute.{Attribute}
@@ -97,3 +97,7 @@ plain_markup plural text plain none utf8 e same empty = record {
   plain = same ∙ sym (encodes-chars text utf8) ∙ sym (all_shown 0 (chars text));
   listed = empty ∙ sym (ap (λ (l : List Attribute). l ++ attributes 0 (all_stand 0 (chars text))) (no_character (chars text) e) ∙ no_attributes 0 0 (chars text));
 }
+
+-- a text has no more characters than bytes
+pub chars-short : (text : List ℕ) → IsUtf8 text → length (chars text) ≤ length text
+chars-short text utf8 = subst (λ (l : List ℕ). length (chars text) ≤ length l) (encodes-chars text utf8) (length-le-encodes (chars text))
