@@ -1,0 +1,9 @@
+pub mod PieceLemmas
+pub mod EachLemmas
+pub mod LineLemmas
+pub mod ScanLemmas
+pub mod TokenLemmas
+pub mod MeaningLemmas
+pub mod ReadingLemmas
+pub mod OneReadingLemmas
+pub mod EnglishLemmas

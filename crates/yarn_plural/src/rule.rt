@@ -113,12 +113,18 @@ impl Rule {
     pub(crate) fn holds(&self, absolute: u64) -> bool
         ensures { result ≡ holds_condition absolute self.now.condition }
     {
-        self.condition.as_slice().iter().any(|relations| hold_together(relations, absolute))
+        self.condition
+            .as_slice()
+            .iter()
+            .any(|relations| hold_together(relations, absolute))
     }
 }
 
 fn hold_together(relations: &List<Relation>, absolute: u64) -> bool
     ensures { result ≡ holds_together absolute relations.now }
 {
-    relations.as_slice().iter().all(|relation| relation.holds(absolute))
+    relations
+        .as_slice()
+        .iter()
+        .all(|relation| relation.holds(absolute))
 }
