@@ -166,7 +166,7 @@ verbatim-short : (text : List ℕ) → length (rest_of (verbatim text)) ≤ leng
 verbatim-short [] = omega arith
 verbatim-short (c ∷ cs) =
     ended-short (past_end (c ∷ cs)) (before (encode_utf8 c) (verbatim cs)) (length (c ∷ cs)) (past_end-short (c ∷ cs))
-      (omega (arith, verbatim-short cs, ap length (rest_of-before (encode_utf8 c) (verbatim cs))))
+    (omega (arith, verbatim-short cs, ap length (rest_of-before (encode_utf8 c) (verbatim cs))))
 
 verbatim_step-rest : (o : Option Cut) → step_rest (verbatim_step o) ≡ rest_of o
 verbatim_step-rest None = refl
@@ -179,7 +179,7 @@ step_if-short false o n h = omega arith
 meaning-short : (plural : PluralTable) (kind : Kind) (own : Tag) (lone : Bool) (behind : List ℕ) → length (step_rest (meaning plural kind own lone behind)) ≤ length behind
 meaning-short plural NoMarkup own lone behind =
     step_if-short (is_bare own.properties lone) (verbatim_step (verbatim behind)) (length behind)
-      (omega (arith, verbatim-short behind, ap length (verbatim_step-rest (verbatim behind))))
+    (omega (arith, verbatim-short behind, ap length (verbatim_step-rest (verbatim behind))))
 meaning-short plural Select own lone behind =
     step_if-short lone (step_to behind (selected_piece (choice_of own))) (length behind) (step_to-short behind (selected_piece (choice_of own)))
 meaning-short plural (Counted form) own lone behind =

@@ -52,7 +52,7 @@ pub leads_step : (plural : PluralTable) (text rest after : List ℕ) (k new : Ke
 leads_step plural text rest after k new piece at so_far is place takes = record {
   within = omega (arith, so_far.within, piece-shorter plural rest piece after is);
   all = λ items read. subst (λ (o : Outcome). Whole plural text o) (sym (takes items))
-    (subst (λ (n : ℕ). Whole plural text (outcome k (At n piece ∷ items))) (sym place)
+      (subst (λ (n : ℕ). Whole plural text (outcome k (At n piece ∷ items))) (sym place)
       (so_far.all (At (length text - length rest) piece ∷ items) (longer plural text rest after piece items so_far.within is read)));
 }
 
@@ -70,7 +70,7 @@ refused_at plural text rest after k piece at first so_far is place fails =
     let has = items_of plural (length text - length after) after in
     let whole = so_far.all (At (length text - length rest) piece ∷ has.items) (longer plural text rest after piece has.items so_far.within is has.read) in
     fault_of plural text k (At (length text - length rest) piece ∷ has.items) first whole
-      (subst (λ (n : ℕ). fault (open_slots k.slots) (At n piece ∷ has.items) ≡ Some first) place (fails has.items))
+    (subst (λ (n : ℕ). fault (open_slots k.slots) (At n piece ∷ has.items) ≡ Some first) place (fails has.items))
 
 pub refused_by : (plural : PluralTable) (text rest after : List ℕ) (k new : Kept) (piece : Piece) (at : ℕ) (e : MarkupFault) → Leads plural text rest k →
     IsPiece plural rest piece after → at ≡ length text - length rest → TakesOr k at piece new (Err e) → ReadsMarkup plural text (Err e)
@@ -112,7 +112,7 @@ pub one_reading : OneReading
 one_reading plural text a b is its =
     let same = items_once plural 0 text is.items its.items is.read its.read in
     one_marked a b (is.plain ∙ ap plain_text same ∙ sym its.plain)
-      (is.listed ∙ ap (λ (l : List Item). character_at text ++ attributes 0 l) same ∙ sym its.listed)
+    (is.listed ∙ ap (λ (l : List Item). character_at text ++ attributes 0 l) same ∙ sym its.listed)
 
 pub one_fault : OneFault
 one_fault plural text a b is its =
@@ -129,7 +129,7 @@ none_refused plural text own first is its =
 answered : (plural : PluralTable) (text : List ℕ) (items : List Item) → Reads plural 0 text items → (o : Option MarkupFault) → fault [] items ≡ o → Answered plural text
 answered plural text items read None e =
     marked (record { plain = plain_text items; attributes = character_at text ++ attributes 0 items })
-      (record { items = items; read = read; sound = e; plain = refl; listed = refl })
+    (record { items = items; read = read; sound = e; plain = refl; listed = refl })
 answered plural text items read (Some first) e = refused first (record { items = items; read = read; found = e })
 
 pub each_answered : EachAnswered

@@ -31,8 +31,10 @@ ordinary_front c cs e = by_tests (nat_eq c 92) (nat_eq c 91) (not_backslash c e)
   where
     not_backslash : (c : ℕ) → is_ordinary c ≡ true → nat_eq c 92 ≡ false
     not_backslash c e = grind (arith, nat_tests)
+
     not_bracket : (c : ℕ) → is_ordinary c ≡ true → nat_eq c 91 ≡ false
     not_bracket c e = grind (arith, nat_tests)
+
     by_tests : (a b : Bool) → a ≡ false → b ≡ false → cond a (behind_backslash cs) (cond b (Bracket cs) (Character c cs)) ≡ Character c cs
     by_tests true b e f = absurd cc
     by_tests false true e f = absurd cc
@@ -46,7 +48,7 @@ unfolding all_stand
 all_read plural at [] e = ends refl
 all_read plural at (c ∷ cs) e =
     goes (Stands c) cs (character c cs (ordinary_front c cs (and_first (is_ordinary c) (list_all is_ordinary cs) e)))
-      (subst (λ (n : ℕ). Reads plural n cs (all_stand (at + 1) cs)) (one_place at (length cs)) (all_read plural (at + 1) cs (and_rest (is_ordinary c) (list_all is_ordinary cs) e)))
+    (subst (λ (n : ℕ). Reads plural n cs (all_stand (at + 1) cs)) (one_place at (length cs)) (all_read plural (at + 1) cs (and_rest (is_ordinary c) (list_all is_ordinary cs) e)))
 
 all_shown : (at : ℕ) (cs : List ℕ) → plain_text (all_stand at cs) ≡ encode_utf8_all cs
 unfolding all_stand
@@ -75,6 +77,7 @@ no_colon (c ∷ cs) e = by_first (nat_eq c 58) (not_colon c (and_first (is_ordin
   where
     not_colon : (c : ℕ) → is_ordinary c ≡ true → nat_eq c 58 ≡ false
     not_colon c e = grind (arith, nat_tests)
+
     by_first : (b : Bool) → b ≡ false → cond (b && begins_blank cs) (Some cs) None ≡ None
     by_first true h = absurd cc
     by_first false h = refl

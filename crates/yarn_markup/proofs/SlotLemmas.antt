@@ -27,7 +27,6 @@ same-self a = (bytes_eq-Decides a a).1 refl
 
 -- ---- attributes that stay
 
-
 joined : (s : Slot) (n m : ℕ) (xs ys : List Attribute) → n ≡ m → xs ≡ ys →
     record { name = s.name; start = s.start; length = n; properties = s.properties } ∷ xs
     ≡ record { name = s.name; start = s.start; length = m; properties = s.properties } ∷ ys
@@ -73,8 +72,6 @@ open_slots-more [] x = append-nil (opened_by x x.length)
 open_slots-more (s ∷ ss) x = ap (λ (os : List Opened). opened_by s s.length ++ os) (open_slots-more ss x) ∙ sym (append_assoc (opened_by s s.length) (open_slots ss) (opened_by x x.length))
 
 -- ---- one attribute closed
-
-
 
 close_none : (name : List ℕ) (now : ℕ) (ss : List Slot) → open_count name ss ≡ 0 → close_latest name now ss ≡ ss
 close_none name now [] e = refl
@@ -173,12 +170,12 @@ first_closed other now at items s ss zero_left (is_one o n e) =
     let k : nat_eq (open_count s.name ss) 0 ≡ true = zero-eq (open_count s.name ss) (sym (ap (λ (x : List ℕ). open_count x ss) n) ∙ zero_left) in
     let own : same_text other s.name ≡ true = subst (λ (x : List ℕ). same_text other x ≡ true) n (same-self other) in
     let place : length_with now ss (At at (Closes other) ∷ items) s s.length ≡ now - s.start =
-        ap (length_with now ss (At at (Closes other) ∷ items) s) o ∙ ap (λ (p : ℕ). p - s.start) (place_own other s.name (open_count s.name ss) now at items true own k) in
+    ap (length_with now ss (At at (Closes other) ∷ items) s) o ∙ ap (λ (p : ℕ). p - s.start) (place_own other s.name (open_count s.name ss) now at items true own k) in
     subst (λ (m : ℕ). completed now (cond (nat_eq m 0) s (closed_at now s)) ss items ≡ completed now s ss (At at (Closes other) ∷ items)) (sym e)
-      (ap (λ (p : ℕ). attribute_of s p) (sym place))
+    (ap (λ (p : ℕ). attribute_of s p) (sym place))
 first_closed other now at items s ss zero_left (is_none e) =
     subst (λ (m : ℕ). completed now (cond (nat_eq m 0) s (closed_at now s)) ss items ≡ completed now s ss (At at (Closes other) ∷ items)) (sym e)
-      (ap (λ (p : ℕ). attribute_of s p) (by_length s.length e))
+    (ap (λ (p : ℕ). attribute_of s p) (by_length s.length e))
   where
     by_length : (o : Option ℕ) → counts_with other s o ≡ 0 → length_with now ss items s o ≡ length_with now ss (At at (Closes other) ∷ items) s o
     by_length None h = ap (λ (p : ℕ). p - s.start) (sym (place_other other s.name (open_count s.name ss) now at items (unnamed other s h)))
@@ -196,7 +193,7 @@ before_closed other now at items s ss some None = ap (λ (p : ℕ). p - s.start)
         let n : other ≡ s.name = same-equal other s.name e in
         let k : nat_eq (open_count s.name ss) 0 ≡ false = pos-eq (open_count s.name ss) (subst (λ (x : List ℕ). 0 < open_count x ss) n some) in
         let less : open_count s.name (close_latest other now ss) ≡ open_count s.name ss - 1 =
-            subst (λ (x : List ℕ). open_count s.name (close_latest x now ss) ≡ open_count s.name ss - 1) (sym n) (open_count-closed s.name now ss) in
+        subst (λ (x : List ℕ). open_count s.name (close_latest x now ss) ≡ open_count s.name ss - 1) (sym n) (open_count-closed s.name now ss) in
         ap (λ (m : ℕ). closing_place s.name m now items) less ∙ sym (place_own other s.name (open_count s.name ss) now at items false e k)
     by_name false e =
         ap (λ (m : ℕ). closing_place s.name m now items) (open_count-other s.name other now ss e)
@@ -214,7 +211,7 @@ completed_closed other now at items (s ∷ ss) = by_rest (nat_eq (open_count oth
         let zero_left = eq-zero (open_count other ss) e in
         ap (λ (x : Attribute). x ∷ all_completed now ss items) (first_closed other now at items s ss zero_left (counted other s s.length))
         ∙ ap (λ (xs : List Attribute). completed now s ss (At at (Closes other) ∷ items) ∷ xs)
-            (sym (ap (λ (l : List Slot). all_completed now l items) (close_none other now ss zero_left)) ∙ h)
+        (sym (ap (λ (l : List Slot). all_completed now l items) (close_none other now ss zero_left)) ∙ h)
     by_rest false e h = joined s _ _ _ _ (before_closed other now at items s ss (ne-zero (open_count other ss) e) s.length) h
 
 -- ---- what is open
@@ -229,6 +226,7 @@ one_more_open false n = by_zero (nat_eq n 0) ∙ ap (λ (m : ℕ). not (nat_eq m
   where
     n_is : n ≡ 0 + n
     n_is = omega arith
+
     by_zero : (b : Bool) → (not b || false) ≡ not b
     by_zero true = refl
     by_zero false = refl
@@ -263,8 +261,9 @@ closed-slots name now (s ∷ ss) some = by_rest (nat_eq (open_count name ss) 0) 
         closed name (opened_by s s.length ++ open_slots ss) ≡ open_slots (cond (nat_eq (counts name s) 0) s (closed_at now s) ∷ ss)
     by_first e (is_one o n k) =
         subst (λ (m : ℕ). closed name (opened_by s s.length ++ open_slots ss) ≡ open_slots (cond (nat_eq m 0) s (closed_at now s) ∷ ss)) (sym k)
-          (closed_first name s (open_slots ss) (is_open-count name ss ∙ ap not e) n s.length o)
+        (closed_first name s (open_slots ss) (is_open-count name ss ∙ ap not e) n s.length o)
     by_first e (is_none k) = absurd (omega (arith, some, k, eq-zero (open_count name ss) e))
+
     by_rest : (b : Bool) → nat_eq (open_count name ss) 0 ≡ b → (0 < open_count name ss → closed name (open_slots ss) ≡ open_slots (close_latest name now ss)) →
         closed name (opened_by s s.length ++ open_slots ss) ≡ open_slots (cond b (cond (nat_eq (counts name s) 0) s (closed_at now s) ∷ ss) (s ∷ close_latest name now ss))
     by_rest true e h = by_first e (counted name s s.length)
@@ -318,22 +317,22 @@ pub taken_opens : (k : Kept) (own : Tag) (at : ℕ) →
     Takes k at (Opens own) (record { plain = k.plain; count = k.count; attributes = k.attributes; slots = k.slots ++ slot_of own.name k.count None own.properties at ∷ [] })
 taken_opens k own at = λ items. same_outcome _ _ _ _ _ _ refl
     (ap (λ (xs : List Attribute). k.attributes ++ xs) (completed_more k.count k.count items (At at (Opens own) ∷ items) (slot_of own.name k.count None own.properties at) refl
-      (λ name n. ap (λ (m : ℕ). closing_place name m k.count items) (add_cond (same_text name own.name) n)) k.slots))
+    (λ name n. ap (λ (m : ℕ). closing_place name m k.count items) (add_cond (same_text name own.name) n)) k.slots))
     (ap (λ (os : List Opened). fault os items) (open_slots-more k.slots (slot_of own.name k.count None own.properties at)))
 
 pub taken_lone : (k : Kept) (own : Tag) (at : ℕ) →
     Takes k at (Lone own) (record { plain = k.plain; count = k.count; attributes = k.attributes; slots = k.slots ++ slot_of own.name k.count (Some 0) own.properties at ∷ [] })
 taken_lone k own at = λ items. same_outcome _ _ _ _ _ _ refl
     (ap (λ (xs : List Attribute). k.attributes ++ xs) (completed_more k.count k.count items (At at (Lone own) ∷ items) (slot_of own.name k.count (Some 0) own.properties at) refl
-      (λ name n. ap (λ (m : ℕ). closing_place name m k.count items) (add-zero n)) k.slots))
+    (λ name n. ap (λ (m : ℕ). closing_place name m k.count items) (add-zero n)) k.slots))
     (ap (λ (os : List Opened). fault os items) (open_slots-more k.slots (slot_of own.name k.count (Some 0) own.properties at) ∙ append-nil (open_slots k.slots)))
 
 pub taken_verbatim : (k : Kept) (text : List ℕ) (at n : ℕ) → n ≡ length (chars text) →
     Takes k at (Verbatim text) (record { plain = k.plain ++ text; count = k.count + length (chars text); attributes = k.attributes; slots = k.slots ++ slot_of (codes "nomarkup") k.count (Some n) [] at ∷ [] })
 taken_verbatim k text at n e = λ items. same_outcome _ _ _ _ _ _ (append_assoc k.plain text (plain_text items))
     (ap (λ (xs : List Attribute). k.attributes ++ xs) (completed_more k.count (k.count + length (chars text)) items (At at (Verbatim text) ∷ items) (slot_of (codes "nomarkup") k.count (Some n) [] at)
-      (ap (λ (m : ℕ). record { name = codes "nomarkup"; start = k.count; length = m; properties = [] } ∷ attributes (k.count + length (chars text)) items) e)
-      (λ name m. ap (λ (m : ℕ). closing_place name m (k.count + length (chars text)) items) (add-zero m)) k.slots))
+    (ap (λ (m : ℕ). record { name = codes "nomarkup"; start = k.count; length = m; properties = [] } ∷ attributes (k.count + length (chars text)) items) e)
+    (λ name m. ap (λ (m : ℕ). closing_place name m (k.count + length (chars text)) items) (add-zero m)) k.slots))
     (ap (λ (os : List Opened). fault os items) (open_slots-more k.slots (slot_of (codes "nomarkup") k.count (Some n) [] at) ∙ append-nil (open_slots k.slots)))
 
 open_cases : (name : List ℕ) (ss : List Slot) (b : Bool) → b ≡ not (nat_eq (open_count name ss) 0) → is_open name (open_slots ss) ≡ b
@@ -351,7 +350,7 @@ pub taken_closes : (k : Kept) (name : List ℕ) (at : ℕ) → true ≡ not (nat
 taken_closes k name at e = λ items. same_outcome _ _ _ _ _ _ refl
     (ap (λ (xs : List Attribute). k.attributes ++ xs) (completed_closed name k.count at items k.slots))
     (sym (ap (λ (b : Bool). cond b (fault (closed name (open_slots k.slots)) items) (Some (BadMarkup at))) (open_cases name k.slots true e)
-      ∙ ap (λ (os : List Opened). fault os items) (closed-slots name k.count k.slots (some_open (open_count name k.slots) e))))
+    ∙ ap (λ (os : List Opened). fault os items) (closed-slots name k.count k.slots (some_open (open_count name k.slots) e))))
 
 pub fails_closes : (k : Kept) (name : List ℕ) (at : ℕ) → false ≡ not (nat_eq (open_count name k.slots) 0) → Fails k at (Closes name) (BadMarkup at)
 fails_closes k name at e = λ items. ap (λ (b : Bool). cond b (fault (closed name (open_slots k.slots)) items) (Some (BadMarkup at))) (open_cases name k.slots false e)
@@ -360,7 +359,7 @@ pub taken_all : (k : Kept) (at : ℕ) → true ≡ is_some_open (open_slots k.sl
     Takes k at ClosesAll (record { plain = k.plain; count = k.count; attributes = k.attributes ++ map (ended_at k.count) k.slots; slots = [] })
 taken_all k at e = λ items. same_outcome _ _ _ _ _ _ refl
     (append_assoc k.attributes (map (ended_at k.count) k.slots) (attributes k.count items)
-      ∙ ap (λ (xs : List Attribute). k.attributes ++ xs) (sym (completed_all_closed k.count at items k.slots)))
+    ∙ ap (λ (xs : List Attribute). k.attributes ++ xs) (sym (completed_all_closed k.count at items k.slots)))
     (ap (λ (b : Bool). cond b (fault [] items) (Some (BadMarkup at))) e)
 
 pub fails_all : (k : Kept) (at : ℕ) → false ≡ is_some_open (open_slots k.slots) → Fails k at ClosesAll (BadMarkup at)
@@ -408,10 +407,10 @@ verbatim_taken k mid text name properties at n slots e f named empty g =
     let count : mid.count ≡ k.count + length (chars text) = ap (λ (m : Kept). m.count) e in
     let size : n ≡ length (chars text) = omega (arith, f, count) in
     takes_same k at (Verbatim text) _ _ _ _ _ _ _ _ (taken_verbatim k text at n size)
-      (ap (λ (m : Kept). m.plain) e) count (ap (λ (m : Kept). m.attributes) e)
-      (g ∙ ap (λ (m : Kept). m.slots ++ slot_of name k.count (Some n) properties at ∷ []) e
-        ∙ ap (λ (x : List ℕ). k.slots ++ slot_of x k.count (Some n) properties at ∷ []) named
-        ∙ ap (λ (x : List Property). k.slots ++ slot_of (codes "nomarkup") k.count (Some n) x at ∷ []) empty)
+    (ap (λ (m : Kept). m.plain) e) count (ap (λ (m : Kept). m.attributes) e)
+    (g ∙ ap (λ (m : Kept). m.slots ++ slot_of name k.count (Some n) properties at ∷ []) e
+    ∙ ap (λ (x : List ℕ). k.slots ++ slot_of x k.count (Some n) properties at ∷ []) named
+    ∙ ap (λ (x : List Property). k.slots ++ slot_of (codes "nomarkup") k.count (Some n) x at ∷ []) empty)
 
 pub closes_taken : (k : Kept) (name : List ℕ) (at : ℕ) (slots : List Slot) → true ≡ not (nat_eq (open_count name k.slots) 0) →
     slots ≡ close_latest name k.count k.slots → Takes k at (Closes name) (kept_of k.plain k.count k.attributes slots)
@@ -462,7 +461,7 @@ set_latest name now (x ∷ ss) zero s t n h e f g =
     ap (λ (y : Slot). slot_of y.name y.start (Some n) y.properties y.at ∷ ss) e
     ∙ ap (λ (m : ℕ). slot_of x.name x.start (Some m) x.properties x.at ∷ ss) (g ∙ ap (λ (y : Slot). now - y.start) f)
     ∙ sym (ap (λ (b : Bool). cond b (cond (nat_eq (counts name x) 0) x (closed_at now x) ∷ ss) (x ∷ close_latest name now ss)) (zero-eq (open_count name ss) h.1)
-      ∙ ap (λ (b : Bool). cond b x (closed_at now x) ∷ ss) (pos-eq (counts name x) (omega (arith, h.0))))
+    ∙ ap (λ (b : Bool). cond b x (closed_at now x) ∷ ss) (pos-eq (counts name x) (omega (arith, h.0))))
 set_latest name now (x ∷ ss) (suc k) s t n h e f g =
     ap (λ (l : List Slot). x ∷ l) (set_latest name now ss k s t n h e f g)
     ∙ sym (ap (λ (b : Bool). cond b (cond (nat_eq (counts name x) 0) x (closed_at now x) ∷ ss) (x ∷ close_latest name now ss)) (pos-eq (open_count name ss) (latest_counts name ss k h)))

@@ -57,7 +57,7 @@ tag_with : (text : List ℕ) (head : Head) → head_at (past_blanks text) ≡ So
 tag_with text head e has None f = is_none (no_end text head e has f)
 tag_with text head e has (Some end) f =
     is_tag (tag_of head has.further) end.lone end.rest
-      (record { head = head; further = has.further; behind = has.behind; begins = e; goes = has.goes; ends = f; own = refl })
+    (record { head = head; further = has.further; behind = has.behind; begins = e; goes = has.goes; ends = f; own = refl })
 
 tag_from : (text : List ℕ) (o : Option Head) → head_at (past_blanks text) ≡ o → TagOr text
 tag_from text None e = is_none (no_head text e)
@@ -127,7 +127,7 @@ items_within plural n at [] h = record { items = []; read = ends refl }
 items_within plural zero at (c ∷ cs) h = absurd (omega arith)
 items_within plural (suc n) at (c ∷ cs) h =
     items_with plural at c cs (piece_from plural (c ∷ cs) (front (c ∷ cs)) refl)
-      (λ piece rest is. items_within plural n (at + (length (c ∷ cs) - length rest)) rest (omega (arith, h, piece-shorter plural (c ∷ cs) piece rest is)))
+    (λ piece rest is. items_within plural n (at + (length (c ∷ cs) - length rest)) rest (omega (arith, h, piece-shorter plural (c ∷ cs) piece rest is)))
 
 pub items_of : (plural : PluralTable) (at : ℕ) (text : List ℕ) → HasItems plural at text
 items_of plural at text = items_within plural (length text) at text (omega arith)
@@ -149,5 +149,5 @@ items_once plural at text a b (goes piece rest is further) (broken some nothing)
 items_once plural at text a b (goes {items = xs} piece rest is further) (goes {items = ys} other behind its going) =
     let same = pieces_once plural text piece other rest behind is its in
     let back : Reads plural (at + (length text - length rest)) rest ys =
-        subst (λ (r : List ℕ). Reads plural (at + (length text - length r)) r ys) (sym same.rest_is) going in
+    subst (λ (r : List ℕ). Reads plural (at + (length text - length r)) r ys) (sym same.rest_is) going in
     ap (λ (p : Piece). At at p ∷ xs) same.own ∙ ap (λ (l : List Item). At at other ∷ l) (items_once plural (at + (length text - length rest)) rest xs ys further back)

@@ -95,7 +95,7 @@ character_with name (Some behind) =
       name = codes "character";
       start = 0;
       length = length name + 1 + run_length is_blank behind;
-      properties = record { name = codes "name"; value = encode_utf8_all name } ∷ []
+      properties = record { name = codes "name"; value = encode_utf8_all name } ∷ [];
     } ∷ []
 
 abbrev pub character_of : ℕ → List ℕ → List Attribute

@@ -95,7 +95,7 @@ abbrev pub outcome : Kept → List Item → Outcome
 outcome k items = record {
   plain = k.plain ++ plain_text items;
   attributes = k.attributes ++ all_completed k.count k.slots items;
-  first = fault (open_slots k.slots) items
+  first = fault (open_slots k.slots) items;
 }
 
 -- the piece at that place is taken in

@@ -45,7 +45,10 @@ fn read_close_name(alloc: Global, text: &[char]) -> Result<Option<CloseRead<'_>>
     match past_bracket(past_blanks(&text[length..])) {
         Some(rest) => {
             let own = text_of(alloc, name)?;
-            Ok(Some(CloseRead { name: Some(own), rest }))
+            Ok(Some(CloseRead {
+                name: Some(own),
+                rest,
+            }))
         }
         None => Ok(None),
     }

@@ -17,6 +17,8 @@ mod property;
 mod reading;
 mod slot;
 mod tag;
+#[cfg(test)]
+mod tests;
 mod value;
 mod verbatim;
 

@@ -121,7 +121,7 @@ fn meaning_of<'a>(
         }
         Kind::Select => {
             if lone {
-                selected_piece(alloc, &tag, rest)
+                selected_piece(&tag, rest)
             } else {
                 Ok(None)
             }
@@ -143,7 +143,11 @@ fn meaning_of<'a>(
 fn attribute_piece(tag: Tag, lone: bool) -> Piece
     ensures { result ≡ attribute_piece tag lone }
 {
-    if lone { Piece::Lone(tag) } else { Piece::Opens(tag) }
+    if lone {
+        Piece::Lone(tag)
+    } else {
+        Piece::Opens(tag)
+    }
 }
 
 fn is_bare(properties: &[Property], lone: bool) -> bool
@@ -167,11 +171,7 @@ fn verbatim_piece(alloc: Global, text: &[char]) -> Result<Option<PieceRead<'_>>,
     }
 }
 
-fn selected_piece<'a>(
-    alloc: Global,
-    tag: &Tag,
-    rest: &'a [char],
-) -> Result<Option<PieceRead<'a>>, Memory>
+fn selected_piece<'a>(tag: &Tag, rest: &'a [char]) -> Result<Option<PieceRead<'a>>, Memory>
     ensures { IfOk result (IsStepAnswer (step_to rest.now (selected_piece (choice_of tag.now)))) }
 {
     match choice_in(tag) {

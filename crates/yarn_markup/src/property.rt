@@ -36,7 +36,10 @@ pub(crate) fn read_properties<'a>(
     }
 }
 
-pub(crate) fn push_property(properties: &mut List<Property>, property: Property) -> Result<(), Memory>
+pub(crate) fn push_property(
+    properties: &mut List<Property>,
+    property: Property,
+) -> Result<(), Memory>
     ensures { OnOk result (properties.new ≡ properties.old ++ property ∷ []) }
 {
     properties.push(property).map_err(|_| Memory)?;

@@ -83,7 +83,11 @@ pub(crate) fn take_all(alloc: Global, slots: &mut Vec<Slot>) -> Vec<Slot>
 }
 
 /// Puts all into the list; those that are open end at that place.
-pub(crate) fn end_all(slots: Vec<Slot>, now: u64, attributes: &mut List<Attribute>) -> Result<(), Memory>
+pub(crate) fn end_all(
+    slots: Vec<Slot>,
+    now: u64,
+    attributes: &mut List<Attribute>,
+) -> Result<(), Memory>
     ensures { OnOk result (attributes.new ≡ attributes.old ++ map (ended_at now) slots.items) }
 {
     for slot in slots {
@@ -112,7 +116,10 @@ fn length_at(length: Option<u64>, start: u64, now: u64) -> u64
     }
 }
 
-pub(crate) fn push_attribute(attributes: &mut List<Attribute>, attribute: Attribute) -> Result<(), Memory>
+pub(crate) fn push_attribute(
+    attributes: &mut List<Attribute>,
+    attribute: Attribute,
+) -> Result<(), Memory>
     ensures { OnOk result (attributes.new ≡ attributes.old ++ attribute ∷ []) }
 {
     attributes.push(attribute).map_err(|_| Memory)?;

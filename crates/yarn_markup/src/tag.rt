@@ -55,11 +55,20 @@ pub(crate) fn read_tag(alloc: Global, text: &[char]) -> Result<Option<TagRead<'_
 fn read_further(alloc: Global, head: HeadRead<'_>) -> Result<Option<TagRead<'_>>, Memory>
     ensures { IfOk result (IsFurtherAnswer head.entry) }
 {
-    let HeadRead { name, mut properties, shorthand, rest } = head;
+    let HeadRead {
+        name,
+        mut properties,
+        shorthand,
+        rest,
+    } = head;
     let behind = read_properties(alloc, &mut properties, rest)?;
     match tag_end(behind) {
         Some(end) => Ok(Some(TagRead {
-            tag: Tag { name, properties, shorthand },
+            tag: Tag {
+                name,
+                properties,
+                shorthand,
+            },
             lone: end.lone,
             rest: end.rest,
         })),
@@ -88,9 +97,19 @@ fn named_head<'a>(alloc: Global, name: &[char], text: &'a [char]) -> Result<Head
     match read_assigned(alloc, name, text)? {
         Some(read) => {
             push_property(&mut properties, read.property)?;
-            Ok(HeadRead { name: own, properties, shorthand: true, rest: read.rest })
+            Ok(HeadRead {
+                name: own,
+                properties,
+                shorthand: true,
+                rest: read.rest,
+            })
         }
-        None => Ok(HeadRead { name: own, properties, shorthand: false, rest: text }),
+        None => Ok(HeadRead {
+            name: own,
+            properties,
+            shorthand: false,
+            rest: text,
+        }),
     }
 }
 
@@ -98,8 +117,14 @@ fn tag_end(text: &[char]) -> Option<End<'_>>
     ensures { MatchOption result (end_at text.now ≡ None) (λ end. end_at text.now ≡ Some (record { lone = end.lone; rest = end.rest.now })) }
 {
     match past_blanks(text) {
-        ['/', behind @ ..] => Some(End { lone: true, rest: past_bracket(past_blanks(behind))? }),
-        rest => Some(End { lone: false, rest: past_bracket(rest)? }),
+        ['/', behind @ ..] => Some(End {
+            lone: true,
+            rest: past_bracket(past_blanks(behind))?,
+        }),
+        rest => Some(End {
+            lone: false,
+            rest: past_bracket(rest)?,
+        }),
     }
 }
 

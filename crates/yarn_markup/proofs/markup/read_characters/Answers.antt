@@ -15,7 +15,7 @@ pub returns-in-Err : goal.returns-in-Err
 returns-in-Err c =
     let is = rw c.in-Some.is at c.in_ok-read.ensures in
     refused_by c.args.plural.now c.args.text.now c.loop-rest.rest.now c.in-Some.read.rest.now (kept c.loop-rest.reading) (kept c.take.new.self) c.in-Some.read.piece _
-      c.in-Err.fault c.loop-rest.invariant is refl c.in-Err.ensures
+    c.in-Err.fault c.loop-rest.invariant is refl c.in-Err.ensures
 
 pub loop-rest-smaller : goal.loop-rest-smaller
 loop-rest-smaller c =
@@ -26,7 +26,7 @@ pub loop-rest-preserved : goal.loop-rest-preserved
 loop-rest-preserved c =
     let is = rw c.in-Some.is at c.in_ok-read.ensures in
     leads_step c.args.plural.now c.args.text.now c.loop-rest.rest.now c.in-Some.read.rest.now (kept c.loop-rest.reading) (kept c.take.new.self) c.in-Some.read.piece _
-      c.loop-rest.invariant is refl c.in_default-take.ensures
+    c.loop-rest.invariant is refl c.in_default-take.ensures
 
 pub returns : goal.returns
 returns c =

@@ -7,4 +7,4 @@ pub returns-in-Some : goal.returns-in-Some
 returns-in-Some c =
     let is = rw c.in-Some.is at c.in_ok-read.ensures in
     subst (λ (p : Piece). IsBracketed c.args.plural.now c.args.inside.now p c.in-Some.read.rest.now) (sym c.closing.ensures)
-      (closes (record { name = c.in-Some.read.name; rest = c.in-Some.read.rest.now }) is)
+    (closes (record { name = c.in-Some.read.name; rest = c.in-Some.read.rest.now }) is)

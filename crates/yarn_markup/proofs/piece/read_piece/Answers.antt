@@ -11,4 +11,4 @@ returns-in-Character c = character c.in-Character.c c.in-Character.rest.now (sym
 pub returns-in-Bracket : goal.returns-in-Bracket
 returns-in-Bracket c =
     IfOk-weaker c.read_bracketed.result (IsBracketAnswer c.args.plural.now c.in-Bracket.inside.now) (IsPieceAnswer c.args.plural.now c.args.text.now)
-      (piece_of_bracket c.args.plural.now c.args.text.now c.in-Bracket.inside.now (sym c.in-Bracket.ensures)) c.read_bracketed.ensures
+    (piece_of_bracket c.args.plural.now c.args.text.now c.in-Bracket.inside.now (sym c.in-Bracket.ensures)) c.read_bracketed.ensures

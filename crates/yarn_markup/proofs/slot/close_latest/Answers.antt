@@ -13,9 +13,9 @@ pub returns-in-Some-clause-closed : goal.returns-in-Some-clause-closed
 returns-in-Some-clause-closed c =
     let place = subst (λ (l : List Slot). IsLatest c.args.name.now l c.in-Some.at) c.as_slice.ensures.value c.in-Some.ensures.place in
     set_latest c.args.name.now c.args.now c.args.slots.now.items c.in-Some.at c.index_mut.result.now c.index.result.now c.saturating_sub.result place
-      c.index_mut.ensures.value c.index.ensures c.saturating_sub.ensures
+    c.index_mut.ensures.value c.index.ensures c.saturating_sub.ensures
 
 pub returns-in-None-clause-closed : goal.returns-in-None-clause-closed
 returns-in-None-clause-closed c =
     none_latest c.args.name.now c.args.now c.args.slots.now.items
-      (subst (λ (l : List Slot). open_count c.args.name.now l ≡ 0) c.as_slice.ensures.value c.in-None.ensures.place)
+    (subst (λ (l : List Slot). open_count c.args.name.now l ≡ 0) c.as_slice.ensures.value c.in-None.ensures.place)
