@@ -6,3 +6,4 @@ pub mod Templates
 pub mod TextItems
 pub mod TextRows
 pub mod Texts
+pub mod RangeLemmas

@@ -24,7 +24,7 @@ use Rattle.yarn_ids.specs.Base.{row_of, rows_from, base_rows}
 use Rattle.yarn_ids.proofs.Texts.{HasTemplate, SimpleText, AreTexts, TextsOfOne, TextsOfOptions, TextsOfClauses, TextsOfLast}
 use Rattle.yarn_ids.proofs.AcceptedTexts.{PlacedTexts, texts_of_accepted}
 
-all_both : {A : Type 0} (P : A → Type 0) (a b : List A) → AllByRecursion P a → AllByRecursion P b → AllByRecursion P (a ++ b)
+pub all_both : {A : Type 0} (P : A → Type 0) (a b : List A) → AllByRecursion P a → AllByRecursion P b → AllByRecursion P (a ++ b)
 all_both P [] b h g = g
 all_both P (x ∷ a) b h g = (h.0, all_both P a b h.1 g)
 

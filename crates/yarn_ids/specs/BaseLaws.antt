@@ -1,5 +1,5 @@
 -- What the rows of an accepted project are (docs/language.md, Ids; docs/formats.md, Templates).
-use Rattle.std.specs.Prelude.{◌≡◌, ℕ, List, [], ◌∷◌, map, nat_eq, if◌then◌else◌, All}
+use Rattle.std.specs.Prelude.{◌≡◌, ◌<◌, ℕ, List, [], ◌∷◌, length, map, nat_eq, if◌then◌else◌, All}
 use Rattle.std.specs.Cmp.Lexicographic.{pointwise}
 use Rattle.yarn_base.specs.declared.SourceFile.{SourceFile}
 use Rattle.yarn_value.specs.declared.base.BaseLine.{BaseLine}
@@ -10,6 +10,7 @@ use Rattle.yarn_tree.specs.Project.{AreFilesOf}
 use Rattle.yarn_tree.specs.Reading.{Reads, reading_of}
 use Rattle.yarn_tree.specs.Trees.{FileTree, file_tree}
 use Rattle.yarn_code.specs.Fields.{IsText, AreUnique, ids_of}
+use Rattle.yarn_meaning.specs.First.{nodes_from}
 use Rattle.yarn_meaning.specs.Texts.{Table, base_of}
 use Rattle.yarn_ids.specs.Base.{base_rows}
 
@@ -45,3 +46,12 @@ text_under (row ∷ rows) id = if pointwise nat_eq row.id id then row.text else 
 -- the rows, looked up by ids, are the base table of the meaning
 abbrev pub RowsAreTheTable : Type 0
 RowsAreTheTable = (files : List FileTree) (id : List ℕ) → text_under (base_rows files) id ≡ base_of files id
+
+-- the places of a row are among so many files and so many nodes
+pub record IsInRange (files nodes : ℕ) (row : BaseLine) : Type 0 where
+  pub file : row.file < files
+  pub node : row.node < nodes
+
+-- the places of each row are among the files and among the nodes of all files
+abbrev pub RowsAreInRange : Type 0
+RowsAreInRange = (files : List FileTree) → All (IsInRange (length files) (length (nodes_from 0 files))) (base_rows files)

@@ -40,7 +40,12 @@ fn push_nodes(
 {
     let mut place = first;
     for node in nodes {
-        push_body(alloc, rows, Site { file, node: place }, node.body.as_slice())?;
+        push_body(
+            alloc,
+            rows,
+            Site { file, node: place },
+            node.body.as_slice(),
+        )?;
         place = place.checked_add(1).ok_or(Memory)?;
     }
     Ok(place)

@@ -5,3 +5,6 @@ mod base;
 pub mod laws;
 
 pub use base::base_of;
+
+#[cfg(test)]
+mod tests;
