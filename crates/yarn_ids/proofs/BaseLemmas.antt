@@ -3,7 +3,6 @@ use Rattle.std.proofs.Common.{◌≡◌, ℕ, suc, ◌+◌, List, [], ◌∷◌,
 use Rattle.std.proofs.lemmas.List.{map-append, length-map}
 use Rattle.yarn_value.specs.declared.base.BaseLine.{BaseLine}
 use Rattle.yarn_blocks.specs.declared.tree.LineText.{LineText}
-use Rattle.yarn_tree.specs.declared.tree.Node.{Node}
 use Rattle.yarn_tree.specs.declared.tree.File.{File}
 use Rattle.yarn_tree.specs.Trees.{NodeTree, node_tree, file_tree}
 use Rattle.yarn_meaning.specs.First.{Placed, nodes_at, nodes_from}

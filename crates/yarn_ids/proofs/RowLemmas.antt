@@ -2,11 +2,8 @@
 use Rattle.std.proofs.Common.{◌≡◌, ℕ, suc, List, [], ◌∷◌, ◌++◌, map, refl, sym, ◌∙◌, subst, inl, inr}
 use Rattle.std.proofs.lemmas.List.{append_assoc}
 use Rattle.std.proofs.lemmas.List.Elements.{All-nil, All-cons}
-use Rattle.yarn_base.specs.declared.SourceFile.{SourceFile}
 use Rattle.yarn_value.specs.declared.base.BaseLine.{BaseLine}
-use Rattle.yarn_value.specs.declared.signature.Signature.{Signature}
 use Rattle.yarn_blocks.specs.declared.tree.LineText.{LineText}
-use Rattle.yarn_tree.specs.declared.tree.Project.{Project}
 use Rattle.yarn_tree.specs.Laws.{IsAmong}
 use Rattle.yarn_tree.specs.Trees.{NodeTree, FileTree, grown}
 use Rattle.yarn_tree.proofs.GrownLemmas.{files-grown}
@@ -16,7 +13,7 @@ use Rattle.yarn_meaning.specs.Texts.{said_in, said_in_nodes, said_in_files, base
 use Rattle.yarn_meaning.specs.Texts as meaning
 use Rattle.yarn_meaning.proofs.BaseLemmas.{text_ids, AreApart, part-apart, files-part, ids-apart}
 use Rattle.yarn_ids.specs.Base.{row_of, rows_from, base_rows}
-use Rattle.yarn_ids.specs.BaseLaws.{IsAcceptedOf, IdsDiffer, RowsAreTheTable, text_under}
+use Rattle.yarn_ids.specs.BaseLaws.{IdsDiffer, RowsAreTheTable, text_under}
 
 -- the rows have the ids and the texts of the lines
 abbrev AreRows : List BaseLine → List LineText → Type 0

@@ -1,4 +1,4 @@
-use Rattle.std.proofs.Common.{◌≡◌, ◌+◌, ◌++◌, ◌∷◌, length, map, drop, ap, sym, ◌∙◌, drop-cons, add-one, arith, rules, ◌<◌, get_or}
+use Rattle.std.proofs.Common.{◌≡◌, ◌+◌, ◌++◌, ◌∷◌, map, drop, ap, sym, ◌∙◌, drop-cons, arith, rules}
 use Rattle.yarn_tree.specs.Trees.{file_tree}
 use Rattle.yarn_meaning.specs.First.{nodes_from}
 use Rattle.yarn_ids.specs.Base.{rows_from}
