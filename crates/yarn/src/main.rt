@@ -3,6 +3,7 @@
 
 use std::alloc::Global;
 use std::env;
+use std::io::ErrorKind;
 use std::process::ExitCode;
 use std::rt::Env;
 use yarn_base::{Memory, ReaderSource, RealFiles, Text, Words, WriterSink};
@@ -26,8 +27,10 @@ fn main(rt: HostRuntime) -> ExitCode {
 // The words behind the program's name; none where one of them is no text, so that they are no command.
 fn words(rt: &(impl Env + AllocGlobal), alloc: Global) -> Result<Words, Memory> {
     let mut words = Words::new(alloc);
-    let Ok(args) = env::args(rt) else {
-        return Ok(words);
+    let args = match env::args(rt) {
+        Ok(args) => args,
+        Err(error) if error.kind() == ErrorKind::OutOfMemory => return Err(Memory),
+        Err(_) => return Ok(words),
     };
     for arg in args.skip(1) {
         words

@@ -4,5 +4,6 @@ pub mod CutLemmas
 pub mod PairsLemmas
 pub mod PlayLemmas
 pub mod ReadLemmas
+pub mod RunLemmas
 pub mod WordsLemmas
 mod TreeLemmas

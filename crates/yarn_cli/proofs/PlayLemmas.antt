@@ -46,8 +46,11 @@ use Rattle.yarn_cli.specs.Command.{Command, start_of, limit_of, vars_name_of, sa
 use Rattle.yarn_cli.specs.Ended.{Says}
 use Rattle.yarn_cli.specs.Kinds.{SaysFault}
 use Rattle.yarn_cli.specs.Messages.{cannot_read, name_at, kind_text, refused, file_refused, no_node, bad_variable, bad_vars, no_typing, many_typings, too_much}
-use Rattle.yarn_cli.specs.Outcome.{Outcome, Whole, IsPlain, Told, of_stand, of_refusal, of_vars_refused, of_run, of_kept, of_vars_file, of_vars, of_start, of_kinds, of_project, of_vars_read, of_all_read, of_sources, of_play, kinds_of, trees_of, saved, untouched, with_vars_name, ChangesSaved}
-use Rattle.yarn_cli.specs.Playing.{vars_seen, of_pairs, of_played, of_store, of_walk, AreInputs, IsVarsFile, IsUntouched, EndsBefore, GoesOn, FailsToRead, GivesPlayed, PlaysAs, TellsItsTexts, IsSaved}
+use Rattle.yarn_cli.specs.Outcome.{Outcome, Whole, IsPlain, Told, of_refusal, kinds_of, trees_of, untouched, ChangesSaved}
+use Rattle.yarn_cli.specs.Play.{of_stand, of_vars_refused, of_run, of_kept, of_vars_file, of_vars, of_start, of_kinds, of_project, of_vars_read, of_all_read, of_sources, of_play, saved}
+use Rattle.yarn_cli.specs.Commands.{with_vars_name}
+use Rattle.yarn_cli.specs.Play.{of_pairs, of_played, of_store}
+use Rattle.yarn_cli.specs.Playing.{vars_seen, of_walk, AreInputs, IsVarsFile, IsUntouched, EndsBefore, GoesOn, FailsToRead, GivesPlayed, PlaysAs, TellsItsTexts, IsSaved}
 use Rattle.yarn_cli.specs.Read.{AreCut, AreSources}
 use Rattle.yarn_cli.specs.Sources.{sources_of, IsUnread}
 use Rattle.yarn_cli.proofs.CutLemmas.{reading-cut}
@@ -336,7 +339,7 @@ changes-written name contents contents_new file bytes is holds =
 -- ---- what was read
 
 -- a source that can't be read is one of the files that are read
-unread-more : (told : Option Named) (names : List (List ℕ)) (more : Option (List ℕ)) (latest : Option (List ℕ)) (name : List ℕ) →
+pub unread-more : (told : Option Named) (names : List (List ℕ)) (more : Option (List ℕ)) (latest : Option (List ℕ)) (name : List ℕ) →
     IsUnread names told latest name → IsUnread (with_vars_name names more) told latest name
 unread-more told names None latest name unread = unread
 unread-more told names (Some more) latest name unread = record {

@@ -3,15 +3,8 @@ use Rattle.std.proofs.Common.{◌≡◌, ℕ, suc, ◌+◌, ◌≤◌, ◌<◌, 
 use Rattle.std.proofs.Math.Seq.{take-suc}
 use Rattle.yarn_base.specs.declared.SourceFile.{SourceFile}
 use Rattle.yarn_base.specs.Causes.{Rose}
-use Rattle.yarn_base.specs.Outside.{Named, GivesFile, WritesPart}
-use Rattle.yarn_tree.specs.Reading.{reading_of, file_reading_of}
-use Rattle.yarn_cli.specs.declared.message.Ended.{Ended}
-use Rattle.yarn_cli.specs.Command.{Command}
-use Rattle.yarn_cli.specs.Ended.{GivesSoFar}
-use Rattle.yarn_cli.specs.Messages.{name_at}
-use Rattle.yarn_cli.specs.Outcome.{trees_of, of_check, of_checked, of_sources_checked, Outcome, of_file, of_format, of_text, printed}
+use Rattle.yarn_base.specs.Outside.{Named, GivesFile}
 use Rattle.yarn_cli.specs.Read.{cut, IsSource, IsAdded, AreCut, AreSources}
-use Rattle.yarn_cli.proofs.CutLemmas.{reading-cut, file_reading-cut}
 use Rattle.yarn_cli.specs.Sources.{Sources, Found, Missing, source_of, with_source, sources_of, IsFound, IsUnread}
 
 of_bytes : (name bytes : List ℕ) (o : Option (List ℕ)) → option_map (take (4194304 + 1)) o ≡ Some bytes →
@@ -120,53 +113,3 @@ unread-first told names name latest is last = record {
 
 pub Rose-later : (before mid now : ℕ) → before ≤ mid → Rose mid now → Rose before now
 Rose-later before mid now le rose = omega (arith, le, rose)
-
--- what is made of the sources is the outcome
-
-of_check-cut : (command : Command) (named : Named) (names : List (List ℕ)) (files : List SourceFile) → names ≡ command.names →
-    AreCut (sources_of named names) files → of_check command named ≡ of_checked command (trees_of (reading_of [] files))
-of_check-cut command named names files is are =
-    ap (λ (n : List (List ℕ)). of_sources_checked command (sources_of named n)) (sym is) ∙ ap (of_sources_checked command) are.found
-    ∙ ap (λ r. of_checked command (trees_of r)) (sym (reading-cut are.whole)) ∙ ap (λ (l : List SourceFile). of_checked command (trees_of (reading_of [] l))) (sym are.are)
-
-pub check_exact : (told : Option Named) (command : Command) (names : List (List ℕ)) (files : List SourceFile) (ended : Ended) (old new : Option (List ℕ)) →
-    names ≡ command.names → AreSources told names files → GivesSoFar (of_checked command (trees_of (reading_of [] files))) ended old new →
-    IfSome told (λ named. GivesSoFar (of_check command named) ended old new)
-check_exact None command names files ended old new is are exact = tt
-check_exact (Some named) command names files ended old new is are exact =
-    subst (λ (o : Outcome). GivesSoFar o ended old new) (sym (of_check-cut command named names files is are)) exact
-
-pub check_part : (told : Option Named) (command : Command) (names : List (List ℕ)) (files : List SourceFile) (old new : Option (List ℕ)) →
-    names ≡ command.names → AreSources told names files → WritesPart old new (of_checked command (trees_of (reading_of [] files))).out →
-    IfSome told (λ named. WritesPart old new (of_check command named).out)
-check_part None command names files old new is are part = tt
-check_part (Some named) command names files old new is are part =
-    subst (λ (o : Outcome). WritesPart old new o.out) (sym (of_check-cut command named names files is are)) part
-
-of_file-cut : (command : Command) (name : List ℕ) (o : Option (List ℕ)) (file : SourceFile) → option_map (λ all. cut (source_of name all)) o ≡ Some file →
-    of_file command name o ≡ of_text command.names (printed (file_reading_of file))
-of_file-cut command name None file e = absurd cc
-of_file-cut command name (Some bytes) file e =
-    let is : cut (source_of name bytes) ≡ file = cc in
-    ap (λ r. of_text command.names (printed r)) (sym (file_reading-cut (source_of name bytes)) ∙ ap file_reading_of is)
-
-of_format-cut : (command : Command) (named : Named) (name : List ℕ) (file : SourceFile) → name ≡ name_at command.names 0 →
-    option_map (λ all. cut (source_of name all)) (named name) ≡ Some file → of_format command named ≡ of_text command.names (printed (file_reading_of file))
-of_format-cut command named name file is source =
-    ap (λ (n : List ℕ). of_file command n (named n)) (sym is) ∙ of_file-cut command name (named name) file source
-
-pub format_exact : (told : Option Named) (command : Command) (name : List ℕ) (file : SourceFile) (ended : Ended) (old new : Option (List ℕ)) →
-    name ≡ name_at command.names 0 → IsSource told name file →
-    GivesSoFar (of_text command.names (printed (file_reading_of file))) ended old new →
-    IfSome told (λ named. GivesSoFar (of_format command named) ended old new)
-format_exact None command name file ended old new is source exact = tt
-format_exact (Some named) command name file ended old new is source exact =
-    subst (λ (o : Outcome). GivesSoFar o ended old new) (sym (of_format-cut command named name file is source)) exact
-
-pub format_part : (told : Option Named) (command : Command) (name : List ℕ) (file : SourceFile) (old new : Option (List ℕ)) →
-    name ≡ name_at command.names 0 → IsSource told name file →
-    WritesPart old new (of_text command.names (printed (file_reading_of file))).out →
-    IfSome told (λ named. WritesPart old new (of_format command named).out)
-format_part None command name file old new is source part = tt
-format_part (Some named) command name file old new is source part =
-    subst (λ (o : Outcome). WritesPart old new o.out) (sym (of_format-cut command named name file is source)) part

@@ -1,20 +1,18 @@
 -- What is answered of a project and of a file, in words of their trees.
-use Rattle.std.proofs.Common.{◌≡◌, ℕ, List, [], ◌∷◌, ◌++◌, map, Result, Ok, Err, refl, sym, ap, ◌∙◌, codes}
+use Rattle.std.proofs.Common.{◌≡◌, ℕ, List, [], ◌∷◌, ◌++◌, map, Result, Ok, Err, refl, sym, ap, ◌∙◌}
 use Rattle.std.specs.List.{flat_map}
-use Rattle.yarn_base.specs.declared.Place.{Place}
 use Rattle.yarn_nodes.specs.declared.node.FileLines.{FileLines}
 use Rattle.yarn_tree.specs.declared.refusal.ProjectFault.{ProjectFault}
 use Rattle.yarn_tree.specs.declared.refusal.ProjectFault.TheVariants.{Refused, Memory}
-use Rattle.yarn_tree.specs.declared.refusal.RefusalKind.{RefusalKind}
 use Rattle.yarn_tree.specs.declared.tree.Project.{Project}
 use Rattle.yarn_tree.specs.declared.tree.File.{File}
 use Rattle.yarn_tree.specs.declared.tree.Node.{Node}
-use Rattle.yarn_tree.specs.Project.{IsFileOf}
-use Rattle.yarn_tree.specs.Reading.{Reading, Reads, Refuses, IsFault, Answers, IsProjectRead, IsFileRead}
-use Rattle.yarn_tree.specs.Trees.{node_tree, file_tree, grown}
+use Rattle.yarn_tree.specs.Reading.{Reading, Reads, IsFault, IsProjectRead, IsFileRead}
+use Rattle.yarn_tree.specs.Trees.{node_tree, file_tree}
 use Rattle.yarn_tree.proofs.GrownLemmas.{files-grown, file-grown}
 use Rattle.yarn_print.specs.Print.{print_of, nodes_text}
-use Rattle.yarn_cli.specs.Outcome.{trees_of, printed, tree_text, node_text}
+use Rattle.yarn_cli.specs.Outcome.{trees_of}
+use Rattle.yarn_cli.specs.Format.{printed, tree_text, node_text}
 use Rattle.yarn_cli.specs.Answers.{IsTreeAnswer}
 
 fault-trees : (reading : Reading (List FileLines)) (fault : ProjectFault) → IsFault reading fault → IsFault (trees_of reading) fault

@@ -1,5 +1,5 @@
 -- What the reading of a project answers, in words of trees.
-use Rattle.std.specs.Prelude.{◌≡◌, List, ℕ, map, Result, Ok, Err}
+use Rattle.std.specs.Prelude.{◌≡◌, List, map, Result, Ok, Err}
 use Rattle.yarn_tree.specs.declared.refusal.ProjectFault.{ProjectFault}
 use Rattle.yarn_tree.specs.declared.tree.Project.{Project}
 use Rattle.yarn_tree.specs.Reading.{Reading, Reads, IsFault}

@@ -5,7 +5,12 @@ pub mod Found
 pub mod Laws
 pub mod Messages
 pub mod Outcome
+pub mod Check
+pub mod Format
+pub mod Play
+pub mod Commands
 pub mod Playing
+pub mod Runs
 pub mod Answers
 pub mod Kinds
 pub mod Read

@@ -2,26 +2,22 @@
 use Rattle.std.specs.Prelude.{◌≡◌, ℕ, List, [], Result, Ok, Err, Option, Some, None, IfSome, string_bytes, ⊤}
 use Rattle.yarn_base.specs.Causes.{Rose}
 use Rattle.yarn_base.specs.Outside.{Named, GivesFile, WritesPart}
-use Rattle.yarn_code.specs.Moments as moments
-use Rattle.yarn_code.specs.Moments.{State}
 use Rattle.yarn_value.specs.Pairs.{Pairs}
-use Rattle.yarn_meaning.specs.First.{first_of}
 use Rattle.yarn_meaning.specs.Texts.{TellsAll, base_of, said_in_files}
-use Rattle.yarn_meaning.specs.Variables.{variables_of, first_other}
 use Rattle.yarn_player.specs.Played.{first_from}
-use Rattle.yarn_player.specs.Transcript.{transcript}
 use Rattle.yarn_tree.specs.Trees.{FileTree}
-use Rattle.yarn_types.specs.declared.typed.TypedName.{TypedName}
 use Rattle.yarn_walker.specs.Walk.{IsSound, files_of}
 use Rattle.yarn_walker.specs.declared.walk.Walk.{Walk}
 use Rattle.yarn_cli.specs.declared.message.Ended.{Ended}
 use Rattle.yarn_cli.specs.declared.status.Status.TheVariants.{ReadFault, WriteFault}
 use Rattle.yarn_cli.specs.declared.vars.Inputs.{Inputs}
 use Rattle.yarn_cli.specs.declared.vars.VarsFile.{VarsFile}
-use Rattle.yarn_cli.specs.Command.{Command, start_of, limit_of, vars_name_of, save_vars_of}
+use Rattle.yarn_cli.specs.Command.{Command, limit_of, vars_name_of}
 use Rattle.yarn_cli.specs.Ended.{Says, SaysUnread, GivesSoFar}
 use Rattle.yarn_cli.specs.Messages.{cannot_write}
-use Rattle.yarn_cli.specs.Outcome.{Outcome, Whole, IsPlain, Told, read_names, of_stand, of_kept, saved, untouched}
+use Rattle.yarn_cli.specs.Outcome.{Outcome, Whole, IsPlain, Told, untouched}
+use Rattle.yarn_cli.specs.Play.{of_played, saved}
+use Rattle.yarn_cli.specs.Commands.{read_names}
 use Rattle.yarn_cli.specs.Read.{AreSources}
 
 -- ---- what is read
@@ -66,23 +62,6 @@ pub record EndsBefore (whole : Named → List ℕ → Whole) (ended : Ended) : T
 abbrev pub GoesOn : {A : Type 0} → (Named → List ℕ → Whole) → (A → Named → List ℕ → Whole) → Result A Ended → Type 0
 GoesOn whole next (Ok a) = (named : Named) (input : List ℕ) → whole named input ≡ next a named input
 GoesOn whole next (Err ended) = EndsBefore whole ended
-
--- from the pairs that a variables file holds
-abbrev pub of_pairs : Command → List FileTree → List TypedName → List ℕ → Pairs → Named → List ℕ → Whole
-of_pairs command files entries file pairs = of_kept command files entries pairs file (first_other pairs (variables_of entries files))
-
--- what stands behind a run that comes to that
-abbrev pub of_played : Command → List FileTree → moments.Outcome → Named → Whole
-of_played command files played named = record {
-  outcome = of_stand command.names played.stand (transcript (base_of files) played.moments);
-  left = played.state.answers;
-  named = saved (save_vars_of command) played.state.store named;
-}
-
--- from the store with which the run begins
-abbrev pub of_store : Command → List FileTree → Pairs → Named → List ℕ → Whole
-of_store command files store named input =
-    of_played command files (first_of [] files (start_of command) (record { store = store; answers = input; tape = [] }) (limit_of command)) named
 
 -- from the walk that begins
 abbrev pub of_walk : Command → Walk → Named → List ℕ → Whole

@@ -1,21 +1,18 @@
 //! `check`: judges a project and counts what it has.
-ghost use Rattle.std.specs.Prelude.{◌≡◌, ◌≤◌, ◌⊎◌, ◌+◌, [], map, IfOk, IfSome, string_bytes};
-ghost use Rattle.std.specs.Io.KnownBytes.{append_known};
-ghost use Rattle.yarn_base.specs.Causes.{Rose};
-ghost use Rattle.yarn_base.specs.Outside.{WritesPart};
+ghost use Rattle.std.specs.Prelude.{◌≡◌, [], map, IfOk, string_bytes};
 ghost use Rattle.yarn_tree.specs.Reading.{reading_of};
 ghost use Rattle.yarn_tree.specs.Trees.{file_tree};
-ghost use Rattle.yarn_cli.specs.Ended.{SaysUnread, GivesSoFar};
-ghost use Rattle.yarn_cli.specs.Messages.{cannot_write, output};
-ghost use Rattle.yarn_cli.specs.Outcome.{of_check, of_checked, of_kinding, of_counts, kinds_of, trees_of, nodes_in, counts_text, IsPlain, Gives, NamesRead};
+ghost use Rattle.yarn_cli.specs.Check.{of_check, of_checked, of_counts, nodes_in, counts_text};
+ghost use Rattle.yarn_cli.specs.Outcome.{of_kinding, kinds_of, trees_of};
+ghost use Rattle.yarn_cli.specs.Runs.{Prints, PrintsUnsaid, PrintsRead, files_seen, sink_seen};
 
-use crate::message::{Ended, read_failed, refused_at, write_failed};
+use crate::message::{Ended, print, read_failed, refused_at};
 use crate::project::project_of;
 use crate::read::{AllRead, read_all};
 use crate::typing::{refused_for_kinds, typing_of};
 use crate::{Command, CommandKind, Status};
 use std::alloc::{AllocError, Global};
-use yarn_base::{Files, IoFault, List as Items, Sink, Source, SourceFile, write_all};
+use yarn_base::{Files, List as Items, Sink, Source, SourceFile};
 use yarn_infer::Typing;
 use yarn_tree::{File, Project, ProjectFault};
 
@@ -31,25 +28,9 @@ pub fn run_check<F: Files, I: Source, O: Sink, E: Sink>(
 ) -> Status
     requires { command.now.kind ≡ CommandKind.Check }
 
-    // Where neither a fault nor want of memory is answered, all is as the outcome says.
-    ensures exact { IsPlain result → IfSome (F.contents files.old) (λ named.
-        Gives (of_check command.now named) result (O.written out.old) (O.written out.new) (E.written err.old) (E.written err.new)) }
-
-    // Whatever is answered, what was written is a part of the outcome's.
-    ensures part { IfSome (F.contents files.old) (λ named.
-        WritesPart (O.written out.old) (O.written out.new) (of_check command.now named).out) }
-
-    ensures read { result ≡ Status.ReadFault → Rose (F.read_faults files.old) (F.read_faults files.new)
-        × NamesRead command.now.names (F.contents files.old) (F.latest_fault files.new) (E.written err.old) (E.written err.new) }
-    ensures write { result ≡ Status.WriteFault → Rose (E.faults err.old) (E.faults err.new)
-        ⊎ (Rose (O.faults out.old) (O.faults out.new) × (E.written err.new ≡ append_known (E.written err.old) (cannot_write output))) }
-
-    ensures files { F.contents files.new ≡ F.contents files.old }
+    ensures prints { Prints command.now.names (of_check command.now) result (files_seen F.contents F.latest_fault F.read_faults F.write_faults files.old) (files_seen F.contents F.latest_fault F.read_faults F.write_faults files.new)
+        (sink_seen O.written O.faults out.old) (sink_seen O.written O.faults out.new) (sink_seen E.written E.faults err.old) (sink_seen E.written E.faults err.new) }
     ensures input { input.new ≡ input.old }
-    ensures read_count { F.read_faults files.old ≤ F.read_faults files.new }
-    ensures write_count { F.write_faults files.new ≡ F.write_faults files.old }
-    ensures out_count { O.faults out.old ≤ O.faults out.new }
-    ensures err_count { E.faults err.old ≤ E.faults err.new }
 {
     let _ = input;
     check_named(alloc, command, files, out).say(err)
@@ -62,18 +43,8 @@ fn check_named<F: Files, O: Sink>(
     files: &mut F,
     out: &mut O,
 ) -> Ended
-    ensures exact { IsPlain result.status → IfSome (F.contents files.old) (λ named.
-        GivesSoFar (of_check command.now named) result (O.written out.old) (O.written out.new)) }
-    ensures part { IfSome (F.contents files.old) (λ named.
-        WritesPart (O.written out.old) (O.written out.new) (of_check command.now named).out) }
-    ensures read { result.status ≡ Status.ReadFault → Rose (F.read_faults files.old) (F.read_faults files.new)
-        × SaysUnread command.now.names (F.contents files.old) (F.latest_fault files.new) result }
-    ensures write { result.status ≡ Status.WriteFault →
-        Rose (O.faults out.old) (O.faults out.new) × (string_bytes result.line ≡ cannot_write output) }
-    ensures files { F.contents files.new ≡ F.contents files.old }
-    ensures read_count { F.read_faults files.old ≤ F.read_faults files.new }
-    ensures write_count { F.write_faults files.new ≡ F.write_faults files.old }
-    ensures out_count { O.faults out.old ≤ O.faults out.new }
+    ensures { PrintsUnsaid command.now.names (of_check command.now) result (files_seen F.contents F.latest_fault F.read_faults F.write_faults files.old) (files_seen F.contents F.latest_fault F.read_faults F.write_faults files.new)
+        (sink_seen O.written O.faults out.old) (sink_seen O.written O.faults out.new) }
 {
     match read_all(alloc, command.names().as_slice(), files) {
         AllRead::Sources(sources) => check_sources(alloc, command, sources, out),
@@ -89,13 +60,7 @@ fn check_sources<O: Sink>(
     sources: Items<SourceFile>,
     out: &mut O,
 ) -> Ended
-    ensures exact { IsPlain result.status →
-        GivesSoFar (of_checked command.now (trees_of (reading_of [] sources))) result (O.written out.old) (O.written out.new) }
-    ensures part { WritesPart (O.written out.old) (O.written out.new) (of_checked command.now (trees_of (reading_of [] sources))).out }
-    ensures write { result.status ≡ Status.WriteFault →
-        Rose (O.faults out.old) (O.faults out.new) × (string_bytes result.line ≡ cannot_write output) }
-    ensures no_read { result.status ≡ Status.ReadFault → ⊥ }
-    ensures count { O.faults out.old ≤ O.faults out.new }
+    ensures { PrintsRead (of_checked command.now (trees_of (reading_of [] sources))) result (sink_seen O.written O.faults out.old) (sink_seen O.written O.faults out.new) }
 {
     match project_of(alloc, sources) {
         Ok(project) => check_project(alloc, command, &project, out),
@@ -106,15 +71,8 @@ fn check_sources<O: Sink>(
 
 // Writes what the project has, where its variables have one kind each.
 fn check_project<O: Sink>(alloc: Global, command: &Command, project: &Project, out: &mut O) -> Ended
-    ensures exact { IsPlain result.status →
-        GivesSoFar (of_kinding command.now.names (kinds_of (map file_tree project.now.files)) (of_counts (map file_tree project.now.files))) result
-        (O.written out.old) (O.written out.new) }
-    ensures part { WritesPart (O.written out.old) (O.written out.new)
-        (of_kinding command.now.names (kinds_of (map file_tree project.now.files)) (of_counts (map file_tree project.now.files))).out }
-    ensures write { result.status ≡ Status.WriteFault →
-        Rose (O.faults out.old) (O.faults out.new) × (string_bytes result.line ≡ cannot_write output) }
-    ensures no_read { result.status ≡ Status.ReadFault → ⊥ }
-    ensures count { O.faults out.old ≤ O.faults out.new }
+    ensures { PrintsRead (of_kinding command.now.names (kinds_of (map file_tree project.now.files)) (of_counts (map file_tree project.now.files))) result
+        (sink_seen O.written O.faults out.old) (sink_seen O.written O.faults out.new) }
 {
     match typing_of(alloc, project) {
         Ok(typing) => write_counts(alloc, project, &typing, out),
@@ -124,22 +82,12 @@ fn check_project<O: Sink>(alloc: Global, command: &Command, project: &Project, o
 
 // Writes the numbers of files, nodes and variables.
 fn write_counts<O: Sink>(alloc: Global, project: &Project, typing: &Typing, out: &mut O) -> Ended
-    ensures exact { IsPlain result.status → (result.status ≡ Status.Done) × (string_bytes result.line ≡ [])
-        × (O.written out.new ≡ append_known (O.written out.old) (counts_text (map file_tree project.now.files) typing.now.entries)) }
-    ensures part { WritesPart (O.written out.old) (O.written out.new) (counts_text (map file_tree project.now.files) typing.now.entries) }
-    ensures write { result.status ≡ Status.WriteFault →
-        Rose (O.faults out.old) (O.faults out.new) × (string_bytes result.line ≡ cannot_write output) }
-    ensures no_read { result.status ≡ Status.ReadFault → ⊥ }
-    ensures count { O.faults out.old ≤ O.faults out.new }
+    ensures { PrintsRead (of_counts (map file_tree project.now.files) typing.now.entries) result (sink_seen O.written O.faults out.old) (sink_seen O.written O.faults out.new) }
 {
     let Ok(line) = counts_line(alloc, project, typing) else {
         return Ended::out_of_memory(alloc);
     };
-    match write_all(out, line.as_bytes()) {
-        Ok(()) => Ended::with_line(alloc, Status::Done, Ok(String::new(alloc))),
-        Err(IoFault::Failed) => write_failed(alloc, "output"),
-        Err(IoFault::Memory) => Ended::out_of_memory(alloc),
-    }
+    print(alloc, line.as_bytes(), out)
 }
 
 fn counts_line(alloc: Global, project: &Project, typing: &Typing) -> Result<String, AllocError>

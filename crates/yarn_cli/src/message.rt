@@ -4,6 +4,8 @@ ghost use Rattle.std.specs.Io.KnownBytes.{append_known};
 ghost use Rattle.yarn_base.specs.Causes.{Rose};
 ghost use Rattle.yarn_cli.specs.Messages.{bad_variable as bad_variable_text, bad_vars, cannot_read, cannot_write, file_refused, kind_text, name_at, refused, usage};
 ghost use Rattle.yarn_cli.specs.Ended.{Tells};
+ghost use Rattle.yarn_cli.specs.Outcome.{of_done};
+ghost use Rattle.yarn_cli.specs.Runs.{PrintsRead, sink_seen};
 
 use crate::Status;
 use std::alloc::{AllocError, Global};
@@ -115,6 +117,18 @@ pub(crate) fn write_failed(alloc: Global, name: &str) -> Ended
         Status::WriteFault,
         format!(in alloc; "cannot write {name}\n"),
     )
+}
+
+/// Writes the bytes, all that the command has to write.
+pub(crate) fn print<O: Sink>(alloc: Global, bytes: &[u8], out: &mut O) -> Ended
+    ensures { PrintsRead (of_done bytes.now) result
+        (sink_seen O.written O.faults out.old) (sink_seen O.written O.faults out.new) }
+{
+    match write_all(out, bytes) {
+        Ok(()) => Ended::with_line(alloc, Status::Done, Ok(String::new(alloc))),
+        Err(IoFault::Failed) => write_failed(alloc, "output"),
+        Err(IoFault::Memory) => Ended::out_of_memory(alloc),
+    }
 }
 
 /// A refusal, with the name of its file among these.

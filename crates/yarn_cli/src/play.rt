@@ -1,8 +1,6 @@
 //! `play`: plays a project and writes its transcript.
 ghost use Rattle.std.specs.Prelude.{◌≡◌, ◌≤◌, ◌⊎◌, List, [], ◌++◌, ℕ, map, IfOk, IfErr, OnOk, string_bytes};
-ghost use Rattle.std.specs.Io.KnownBytes.{append_known};
 ghost use Rattle.yarn_base.specs.Causes.{Rose};
-ghost use Rattle.yarn_base.specs.Outside.{WritesPart};
 ghost use Rattle.yarn_meaning.specs.First.{find};
 ghost use Rattle.yarn_player.specs.Played.{TakesFront};
 ghost use Rattle.yarn_player.specs.Stands.{stand_of};
@@ -11,10 +9,13 @@ ghost use Rattle.yarn_tree.specs.Trees.{file_tree};
 ghost use Rattle.yarn_walker.specs.Faults.{fault_of};
 ghost use Rattle.yarn_walker.specs.Walk.{IsSound, files_of};
 ghost use Rattle.yarn_cli.specs.Command.{start_of, save_vars_of};
-ghost use Rattle.yarn_cli.specs.Ended.{Says, SaysUnread};
+ghost use Rattle.yarn_cli.specs.Commands.{read_names};
+ghost use Rattle.yarn_cli.specs.Ended.{Says};
 ghost use Rattle.yarn_cli.specs.Messages.{cannot_read, cannot_write, fault_text, faulted, input as input_name, name_at, no_node, output as output_name};
-ghost use Rattle.yarn_cli.specs.Outcome.{kinds_of, of_kinds, of_play, of_project, of_stand, of_start, read_names, trees_of, ChangesSaved, GivesWhole, IsPlain, NamesRead, NamesWritten, Told};
+ghost use Rattle.yarn_cli.specs.Outcome.{kinds_of, trees_of, ChangesSaved, IsPlain};
+ghost use Rattle.yarn_cli.specs.Play.{of_kinds, of_play, of_project, of_stand, of_start};
 ghost use Rattle.yarn_cli.specs.Playing.{of_walk, vars_seen, IsSaved, GoesOn, PlaysAs, SaysUnwritten, TellsItsTexts, WalksIn};
+ghost use Rattle.yarn_cli.specs.Runs.{Runs, RunsRead, RunsUnsaid, files_seen, input_seen, sink_seen};
 
 use crate::message::{Ended, file_name, read_failed, refused_at, write_failed};
 use crate::project::project_of;
@@ -43,29 +44,9 @@ pub fn run_play<F: Files, I: Source, O: Sink, E: Sink>(
 ) -> Status
     requires { command.now.kind ≡ CommandKind.Play }
 
-    // Where neither a fault nor want of memory is answered, all is as the outcome says.
-    ensures exact { IsPlain result → Told (F.contents files.old) (I.left input.old) (λ named bytes.
-        GivesWhole (of_play command.now named bytes) result (O.written out.old) (O.written out.new) (E.written err.old) (E.written err.new)
-        (I.left input.new) (F.contents files.new)) }
-
-    // Whatever is answered, what was written is a part of the outcome's, and a front of the input was taken.
-    ensures part { Told (F.contents files.old) (I.left input.old) (λ named bytes.
-        WritesPart (O.written out.old) (O.written out.new) (of_play command.now named bytes).outcome.out) }
-    ensures taken { TakesFront (I.left input.old) (I.left input.new) }
-    ensures files { ChangesSaved (save_vars_of command.now) (F.contents files.old) (F.contents files.new) }
-
-    ensures read { result ≡ Status.ReadFault → (Rose (F.read_faults files.old) (F.read_faults files.new)
-        × NamesRead (read_names command.now) (F.contents files.old) (F.latest_fault files.new) (E.written err.old) (E.written err.new))
-        ⊎ (Rose (I.faults input.old) (I.faults input.new) × (E.written err.new ≡ append_known (E.written err.old) (cannot_read input_name))) }
-    ensures write { result ≡ Status.WriteFault → Rose (E.faults err.old) (E.faults err.new)
-        ⊎ (Rose (O.faults out.old) (O.faults out.new) × (E.written err.new ≡ append_known (E.written err.old) (cannot_write output_name)))
-        ⊎ (Rose (F.write_faults files.old) (F.write_faults files.new) × NamesWritten (save_vars_of command.now) (E.written err.old) (E.written err.new)) }
-
-    ensures read_count { F.read_faults files.old ≤ F.read_faults files.new }
-    ensures write_count { F.write_faults files.old ≤ F.write_faults files.new }
-    ensures input_count { I.faults input.old ≤ I.faults input.new }
-    ensures out_count { O.faults out.old ≤ O.faults out.new }
-    ensures err_count { E.faults err.old ≤ E.faults err.new }
+    ensures { Runs (read_names command.now) (save_vars_of command.now) (of_play command.now) result
+        (files_seen F.contents F.latest_fault F.read_faults F.write_faults files.old) (files_seen F.contents F.latest_fault F.read_faults F.write_faults files.new)
+        (input_seen I.left I.faults input.old) (input_seen I.left I.faults input.new) (sink_seen O.written O.faults out.old) (sink_seen O.written O.faults out.new) (sink_seen E.written E.faults err.old) (sink_seen E.written E.faults err.new) }
 {
     play_named(alloc, command, files, input, out).say(err)
 }
@@ -78,20 +59,9 @@ fn play_named<F: Files, I: Source, O: Sink>(
     input: &mut I,
     out: &mut O,
 ) -> Ended
-    ensures played { PlaysAs (of_play command.now) result (F.contents files.old) (F.contents files.new)
-        (I.left input.old) (I.left input.new) (O.written out.old) (O.written out.new) }
-    ensures taken { TakesFront (I.left input.old) (I.left input.new) }
-    ensures files { ChangesSaved (save_vars_of command.now) (F.contents files.old) (F.contents files.new) }
-    ensures read { result.status ≡ Status.ReadFault → (Rose (F.read_faults files.old) (F.read_faults files.new)
-        × SaysUnread (read_names command.now) (F.contents files.old) (F.latest_fault files.new) result)
-        ⊎ (Rose (I.faults input.old) (I.faults input.new) × (string_bytes result.line ≡ cannot_read input_name)) }
-    ensures write { result.status ≡ Status.WriteFault →
-        (Rose (O.faults out.old) (O.faults out.new) × (string_bytes result.line ≡ cannot_write output_name))
-        ⊎ (Rose (F.write_faults files.old) (F.write_faults files.new) × SaysUnwritten (save_vars_of command.now) result) }
-    ensures read_count { F.read_faults files.old ≤ F.read_faults files.new }
-    ensures write_count { F.write_faults files.old ≤ F.write_faults files.new }
-    ensures input_count { I.faults input.old ≤ I.faults input.new }
-    ensures out_count { O.faults out.old ≤ O.faults out.new }
+    ensures { RunsUnsaid command.now (of_play command.now) result
+        (files_seen F.contents F.latest_fault F.read_faults F.write_faults files.old) (files_seen F.contents F.latest_fault F.read_faults F.write_faults files.new)
+        (input_seen I.left I.faults input.old) (input_seen I.left I.faults input.new) (sink_seen O.written O.faults out.old) (sink_seen O.written O.faults out.new) }
 {
     match read_inputs(alloc, command, files) {
         Ok(inputs) => play_inputs(alloc, command, inputs, files, input, out),
@@ -108,19 +78,9 @@ fn play_inputs<F: Files, I: Source, O: Sink>(
     input: &mut I,
     out: &mut O,
 ) -> Ended
-    ensures played { PlaysAs (of_project command.now (trees_of (reading_of [] inputs.entry.sources)) (vars_seen inputs.entry.vars)) result
-        (F.contents files.old) (F.contents files.new) (I.left input.old) (I.left input.new) (O.written out.old) (O.written out.new) }
-    ensures taken { TakesFront (I.left input.old) (I.left input.new) }
-    ensures files { ChangesSaved (save_vars_of command.now) (F.contents files.old) (F.contents files.new) }
-    ensures read { result.status ≡ Status.ReadFault →
-        Rose (I.faults input.old) (I.faults input.new) × (string_bytes result.line ≡ cannot_read input_name) }
-    ensures write { result.status ≡ Status.WriteFault →
-        (Rose (O.faults out.old) (O.faults out.new) × (string_bytes result.line ≡ cannot_write output_name))
-        ⊎ (Rose (F.write_faults files.old) (F.write_faults files.new) × SaysUnwritten (save_vars_of command.now) result) }
-    ensures read_count { F.read_faults files.new ≡ F.read_faults files.old }
-    ensures write_count { F.write_faults files.old ≤ F.write_faults files.new }
-    ensures input_count { I.faults input.old ≤ I.faults input.new }
-    ensures out_count { O.faults out.old ≤ O.faults out.new }
+    ensures { RunsRead command.now (of_project command.now (trees_of (reading_of [] inputs.entry.sources)) (vars_seen inputs.entry.vars)) result
+        (files_seen F.contents F.latest_fault F.read_faults F.write_faults files.old) (files_seen F.contents F.latest_fault F.read_faults F.write_faults files.new)
+        (input_seen I.left I.faults input.old) (input_seen I.left I.faults input.new) (sink_seen O.written O.faults out.old) (sink_seen O.written O.faults out.new) }
 {
     let Inputs { sources, vars } = inputs;
     match project_of(alloc, sources) {
@@ -146,19 +106,9 @@ fn play_project<F: Files, I: Source, O: Sink>(
     out: &mut O,
 ) -> Ended
     requires { TellsItsTexts (map file_tree project.now.files) }
-    ensures played { PlaysAs (of_kinds command.now (map file_tree project.now.files) (kinds_of (map file_tree project.now.files)) (vars_seen vars.entry)) result
-        (F.contents files.old) (F.contents files.new) (I.left input.old) (I.left input.new) (O.written out.old) (O.written out.new) }
-    ensures taken { TakesFront (I.left input.old) (I.left input.new) }
-    ensures files { ChangesSaved (save_vars_of command.now) (F.contents files.old) (F.contents files.new) }
-    ensures read { result.status ≡ Status.ReadFault →
-        Rose (I.faults input.old) (I.faults input.new) × (string_bytes result.line ≡ cannot_read input_name) }
-    ensures write { result.status ≡ Status.WriteFault →
-        (Rose (O.faults out.old) (O.faults out.new) × (string_bytes result.line ≡ cannot_write output_name))
-        ⊎ (Rose (F.write_faults files.old) (F.write_faults files.new) × SaysUnwritten (save_vars_of command.now) result) }
-    ensures read_count { F.read_faults files.new ≡ F.read_faults files.old }
-    ensures write_count { F.write_faults files.old ≤ F.write_faults files.new }
-    ensures input_count { I.faults input.old ≤ I.faults input.new }
-    ensures out_count { O.faults out.old ≤ O.faults out.new }
+    ensures { RunsRead command.now (of_kinds command.now (map file_tree project.now.files) (kinds_of (map file_tree project.now.files)) (vars_seen vars.entry)) result
+        (files_seen F.contents F.latest_fault F.read_faults F.write_faults files.old) (files_seen F.contents F.latest_fault F.read_faults F.write_faults files.new)
+        (input_seen I.left I.faults input.old) (input_seen I.left I.faults input.new) (sink_seen O.written O.faults out.old) (sink_seen O.written O.faults out.new) }
 {
     match walk_of(alloc, command, project, vars) {
         Ok(walk) => play_walk(alloc, command, walk, files, input, out),

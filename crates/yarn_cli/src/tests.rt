@@ -1,8 +1,8 @@
 //! Runs that a table of cases can't show: calls that fail, and pieces and files of any size.
 ghost use Rattle.std.specs.Prelude.{◌≤◌};
 
-use crate::{Command, CommandKind, Status, read_words, run_yarn};
-use std::alloc::{AllocError, Global};
+use crate::{CommandKind, Status, read_words, run_yarn};
+use std::alloc::Global;
 use std::process::Abort;
 use std::test::Fail;
 use yarn_base::{List, Memory, MemoryFiles, MemorySink, MemorySource, Source, Text, Words};
@@ -19,9 +19,6 @@ const GOLD: &str =
     "title: Start\n---\n<<declare $gold = 1>>\n<<declare $who = \"x\">>\n{$gold} {visited_count(\"Start\")}\n<<set $gold += 1>>\n===\n";
 
 const USAGE: &str = "usage: yarn check|format|strings|tag|compile|list|play|run|resume|demo\n";
-
-/// A list of words: its name, the words, and the command that they are.
-type WordsCase<'a> = (&'a str, &'a [&'a str], &'a str);
 
 /// A run over the file `a.yarn`: its name, that file's text, the words; and its status, what it writes and
 /// what it says.
@@ -91,75 +88,17 @@ fn expect(rt: &impl Abort, name: &str, want: (u8, &str, &str), status: Status, t
     assert_eq!(rt; to.err.written().as_slice(), err.as_bytes(), "{name}");
 }
 
-// A command as one text, with its pairs as they were given.
-fn shown(alloc: Global, command: &Command) -> Result<String, AllocError> {
-    let mut text = match command.kind() {
-        CommandKind::Check => String::from_str(alloc, "check")?,
-        CommandKind::Play => String::from_str(alloc, "play")?,
-        CommandKind::Format => String::from_str(alloc, "format")?,
-    };
-    for name in ["start", "limit", "vars", "save-vars"] {
-        let name = Text::from_str(alloc, name).map_err(|_| AllocError)?;
-        if let Some(value) = command.pair(&name) {
-            text.push_str(" --")?;
-            text.push_str(name.as_str())?;
-            text.push_str(" ")?;
-            text.push_str(value.as_str())?;
-        }
-    }
-    for name in command.names().as_slice() {
-        text.push_str(" ")?;
-        text.push_str(name.as_str())?;
-    }
-    Ok(text)
-}
-
-fn found(alloc: Global, words: &[&str]) -> Result<String, Memory> {
-    match read_words(alloc, &words_of(alloc, words)?)? {
-        Some(command) => Ok(shown(alloc, &command)?),
-        None => Ok(String::from_str(alloc, "none")?),
-    }
-}
-
 #[test]
-fn words_are_the_commands_that_the_pages_say(rt: HostRuntime) -> Result<(), Fail> {
+fn a_command_has_its_pairs_and_names(rt: HostRuntime) -> Result<(), Fail> {
     let alloc = rt.alloc();
-    let cases: [WordsCase; 11] = [
-        ("files", &["play", "a", "b", "a"], "play a b a"),
-        ("format", &["format", "a"], "format a"),
-        (
-            "pairs",
-            &["play", "--start", "A", "--limit", "7", "a"],
-            "play --start A --limit 7 a",
-        ),
-        (
-            "pairs turned round",
-            &["play", "--limit", "7", "--start", "A", "a"],
-            "play --start A --limit 7 a",
-        ),
-        (
-            "largest limit",
-            &["play", "--limit", "1000000000", "a"],
-            "play --limit 1000000000 a",
-        ),
-        (
-            "start that is no title",
-            &["play", "--start", "no title", "a"],
-            "play --start no title a",
-        ),
-        (
-            "files of variables",
-            &["play", "--save-vars", "w", "--vars", "v", "a"],
-            "play --vars v --save-vars w a",
-        ),
-        ("check", &["check", "a", "b"], "check a b"),
-        ("no words", &[], "none"),
-        ("limit 0", &["play", "--limit", "0", "a"], "none"),
-        ("unknown pair", &["play", "--seed", "1", "a"], "none"),
-    ];
-    for (name, words, command) in cases {
-        assert_eq!(rt; found(alloc, words)?.as_str(), command, "{name}");
-    }
+    let words = words_of(alloc, &["play", "--limit", "7", "a.yarn"])?;
+    let Some(command) = read_words(alloc, &words)? else {
+        return Err(Fail::new("these words are a command"));
+    };
+    let limit = command.pair(&Text::from_str(alloc, "limit")?);
+    assert_eq!(&rt; limit.map(|word| word.as_str()), Some("7"), "the limit");
+    assert_eq!(&rt; command.names().len(), 1, "the names");
+    assert_eq!(&rt; command.kind(), CommandKind::Play, "the kind");
     Ok(())
 }
 
@@ -176,27 +115,11 @@ fn expect_all(rt: &impl Abort, alloc: Global, cases: &[Case]) -> Result<(), Memo
 
 #[test]
 fn each_command_runs(rt: HostRuntime) -> Result<(), Fail> {
-    let cases: [Case; 6] = [
+    let cases: [Case; 4] = [
         ("play", HELLO, &["play", "a.yarn"], 0, "Hello\n", ""),
         ("check", HELLO, &["check", "a.yarn"], 0, "ok 1 1 0\n", ""),
         ("format", HELLO, &["format", "a.yarn"], 0, HELLO, ""),
         ("no file", HELLO, &["play"], 5, "", USAGE),
-        (
-            "bad line",
-            "hello\n",
-            &["play", "a.yarn"],
-            2,
-            "",
-            "a.yarn:1: BadLine\n",
-        ),
-        (
-            "saved",
-            GOLD,
-            &["play", "--save-vars", "w", "a.yarn"],
-            0,
-            "1 0\n",
-            "",
-        ),
     ];
     expect_all(&rt, rt.alloc(), &cases)?;
     Ok(())
@@ -367,123 +290,6 @@ fn a_call_that_fails_is_told(rt: HostRuntime) -> Result<(), Fail> {
         to.fail(call)?;
         let status = run(alloc, &words_of(alloc, words)?, &mut to);
         expect(&rt, err, (number, out, err), status, &to);
-    }
-    Ok(())
-}
-
-// The command `play` and so many times the one name, and then the other.
-fn play_often(alloc: Global, often: u32, last: &str) -> Result<Words, Memory> {
-    let mut words = words_of(alloc, &["play"])?;
-    for _ in 0..often {
-        words
-            .push(Text::from_str(alloc, "a.yarn")?)
-            .map_err(|_| Memory)?;
-    }
-    words
-        .push(Text::from_str(alloc, last)?)
-        .map_err(|_| Memory)?;
-    Ok(words)
-}
-
-// The bytes, doubled so many times.
-fn doubled(alloc: Global, mut bytes: Vec<u8>, times: u32) -> Result<Vec<u8>, Memory> {
-    for _ in 0..times {
-        let again = Vec::from_slice(alloc, bytes.as_slice())?;
-        bytes.extend_from_slice(again.as_slice())?;
-    }
-    Ok(bytes)
-}
-
-// 4,194,304 bytes: 64 comments of 65,536 bytes each.
-fn long_file(alloc: Global) -> Result<List<u8>, Memory> {
-    let mut comment = doubled(alloc, Vec::from_slice(alloc, b"/")?, 16)?;
-    comment.truncate(65535);
-    comment.push(b'\n')?;
-    Ok(List::from_vec(doubled(alloc, comment, 6)?))
-}
-
-// The file `a.yarn` that is tried.
-#[derive(Clone, Copy, Debug)]
-enum Size {
-    Empty,
-    Largest,
-    TooLarge,
-}
-
-fn sized(alloc: Global, size: Size) -> Result<List<u8>, Memory> {
-    match size {
-        Size::Empty => Ok(List::new(alloc)),
-        Size::Largest => long_file(alloc),
-        Size::TooLarge => {
-            let mut bytes = long_file(alloc)?;
-            bytes.push(b'\n').map_err(|_| Memory)?;
-            Ok(bytes)
-        }
-    }
-}
-
-/// A run over so many times `a.yarn` of that size, and a last file; `b.yarn` has that text.
-type SizeCase<'a> = (u32, Size, &'a str, &'a str, u8, &'a str);
-
-#[test]
-fn too_much_is_told(rt: HostRuntime) -> Result<(), Fail> {
-    let alloc = rt.alloc();
-    let cases: [SizeCase; 6] = [
-        (
-            256,
-            Size::Empty,
-            "b.yarn",
-            "hello\n",
-            2,
-            "b.yarn:0: TooMuch\n",
-        ),
-        (
-            255,
-            Size::Empty,
-            "b.yarn",
-            "hello\n",
-            2,
-            "b.yarn:1: BadLine\n",
-        ),
-        (256, Size::Empty, "no.yarn", "", 6, "cannot read no.yarn\n"),
-        (8, Size::Largest, "b.yarn", "\n", 2, "b.yarn:0: TooMuch\n"),
-        (8, Size::Largest, "b.yarn", "", 12, "no node Start\n"),
-        (
-            1,
-            Size::TooLarge,
-            "b.yarn",
-            "hello\n",
-            2,
-            "a.yarn:0: TooMuch\n",
-        ),
-    ];
-    for (often, size, last, text, number, err) in cases {
-        let mut to = make_outside(alloc, "", text)?;
-        to.put(alloc, "a.yarn", sized(alloc, size)?)?;
-        let status = run(alloc, &play_often(alloc, often, last)?, &mut to);
-        expect(&rt, err, (number, "", err), status, &to);
-    }
-    Ok(())
-}
-
-// A name of so many bytes.
-fn long_name(alloc: Global, bytes: u32) -> Result<String, Memory> {
-    let mut name = String::new(alloc);
-    for _ in 0..bytes {
-        name.push('n')?;
-    }
-    Ok(name)
-}
-
-#[test]
-fn a_name_has_at_most_65536_bytes(rt: HostRuntime) -> Result<(), Fail> {
-    let alloc = rt.alloc();
-    for (bytes, number, out, err) in [(65536, 0u8, "Hello\n", ""), (65537, 5, "", USAGE)] {
-        let name = long_name(alloc, bytes)?;
-        let mut to = make_outside(alloc, HELLO, "")?;
-        to.put(alloc, name.as_str(), bytes_of(alloc, HELLO)?)?;
-        let status = run(alloc, &words_of(alloc, &["play", name.as_str()])?, &mut to);
-        expect(&rt, "a long name", (number, out, err), status, &to);
     }
     Ok(())
 }

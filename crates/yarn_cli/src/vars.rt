@@ -3,8 +3,9 @@ ghost use Rattle.std.specs.Prelude.{◌≡◌, ◌≤◌, List, ℕ, map, IfOk, 
 ghost use Rattle.yarn_tree.specs.Trees.{file_tree, FileTree};
 ghost use Rattle.yarn_types.specs.declared.typed.TypedName.{TypedName};
 ghost use Rattle.yarn_cli.specs.Command.{Command as Commanded, vars_name_of};
-ghost use Rattle.yarn_cli.specs.Outcome.{of_run, of_vars, of_vars_file};
-ghost use Rattle.yarn_cli.specs.Playing.{vars_seen, of_pairs, of_store, AreInputs, FailsToRead, GoesOn};
+ghost use Rattle.yarn_cli.specs.Play.{of_run, of_vars, of_vars_file};
+ghost use Rattle.yarn_cli.specs.Play.{of_pairs, of_store};
+ghost use Rattle.yarn_cli.specs.Playing.{vars_seen, AreInputs, FailsToRead, GoesOn};
 ghost use Rattle.yarn_cli.specs.Read.{AreSources};
 
 use crate::Command;

@@ -1,6 +1,6 @@
 use Rattle.std.proofs.Common.{◌≡◌, ◌+◌, map, drop}
 use Rattle.yarn_tree.specs.Trees.{file_tree}
-use Rattle.yarn_cli.specs.Outcome.{nodes_in}
+use Rattle.yarn_cli.specs.Check.{nodes_in}
 use Rattle.yarn_cli.proofs.check.count_nodes.Given as goal
 
 abbrev pub invariant-loop-file : goal.invariant-loop-file

@@ -1,22 +1,25 @@
-use Rattle.yarn_cli.proofs.ReadLemmas.{unread-first, format_exact, format_part}
+use Rattle.std.proofs.Common.{ℕ, List, ap, subst}
+use Rattle.yarn_cli.specs.Format.{of_format, of_formatted, of_text, printed}
+use Rattle.yarn_cli.specs.Messages.{name_at}
+use Rattle.yarn_cli.specs.Read.{IsSource}
+use Rattle.yarn_cli.proofs.CutLemmas.{file_reading-cut}
+use Rattle.yarn_cli.proofs.ReadLemmas.{unread-first}
+use Rattle.yarn_cli.proofs.RunLemmas.{one-unsaid, unread-unsaid}
 use Rattle.yarn_cli.proofs.format.format_named.Goals as goal
 
-pub returns-in-Ok-clause-exact : goal.returns-in-Ok-clause-exact
-returns-in-Ok-clause-exact g c plain =
-    format_exact _ c.args.command.now c.first_name-name.result.now c.in-Ok.source c.format_source.result _ _ c.first_name-name.ensures.at
-    c.in-Ok.ensures.source (c.format_source.ensures.exact plain)
+pub returns-in-Ok : goal.returns-in-Ok
+returns-in-Ok g c =
+    let command = c.args.command.now in
+    let facts = c.in-Ok.ensures in
+    one-unsaid (of_formatted command) (λ file. ap (λ r. of_text command.names (printed r)) (file_reading-cut file)) (name_at command.names 0) command.names
+    c.format_source.result _ _ _ _ c.in-Ok.source
+    (subst (λ (name : List ℕ). IsSource (g.F.Files.contents c.args.files.now) name c.in-Ok.source) c.first_name-name.ensures.at facts.source)
+    c.format_source.ensures facts.same facts.writes facts.cause.later
 
-pub returns-in-Ok-clause-part : goal.returns-in-Ok-clause-part
-returns-in-Ok-clause-part g c =
-    format_part _ c.args.command.now c.first_name-name.result.now c.in-Ok.source _ _ c.first_name-name.ensures.at c.in-Ok.ensures.source
-    c.format_source.ensures.part
-
-pub returns-in-Err-Failed-clause-read : goal.returns-in-Err-Failed-clause-read
-returns-in-Err-Failed-clause-read g c is = (
-  c.in-Err-Failed.ensures.cause.failed search,
-  record {
-    name = c.first_name-name.result.now;
-    unread = unread-first _ _ _ _ c.first_name-name.ensures.first (c.in-Err-Failed.ensures.named search);
-    line_is = rw c.as_str.ensures.value at c.read_failed.ensures.line is;
-  },
-)
+pub returns-in-Err-Failed : goal.returns-in-Err-Failed
+returns-in-Err-Failed g c =
+    let command = c.args.command.now in
+    let facts = c.in-Err-Failed.ensures in
+    let said = c.read_failed in
+    unread-unsaid command.names (of_format command) said.result _ _ _ facts.same facts.writes c.first_name-name.result.now c.as_str.result.now facts.cause.later
+    (unread-first _ _ _ _ c.first_name-name.ensures.first (facts.named search)) (facts.cause.failed search) c.as_str.ensures.value said.ensures.cases said.ensures.line

@@ -1,6 +1,6 @@
 use Rattle.std.proofs.Common.{map}
 use Rattle.yarn_tree.specs.Trees.{file_tree}
-use Rattle.yarn_cli.specs.Outcome.{of_run}
+use Rattle.yarn_cli.specs.Play.{of_run}
 use Rattle.yarn_cli.proofs.PlayLemmas.{goes-named}
 use Rattle.yarn_cli.proofs.vars.first_pairs.Goals as goal
 

@@ -1,7 +1,8 @@
 use Rattle.std.proofs.Common.{map}
 use Rattle.yarn_tree.specs.Trees.{file_tree}
-use Rattle.yarn_cli.specs.Outcome.{of_vars}
-use Rattle.yarn_cli.specs.Playing.{vars_seen, of_store}
+use Rattle.yarn_cli.specs.Play.{of_vars}
+use Rattle.yarn_cli.specs.Play.{of_store}
+use Rattle.yarn_cli.specs.Playing.{vars_seen}
 use Rattle.yarn_cli.proofs.PlayLemmas.{goes-err}
 use Rattle.yarn_cli.proofs.vars.store_of.Goals as goal
 
