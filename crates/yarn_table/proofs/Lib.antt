@@ -1,0 +1,12 @@
+pub mod RecordLemmas
+pub mod GoodLemmas
+pub mod ReaderLemmas
+pub mod ColumnLemmas
+pub mod TableLemmas
+pub mod RowLemmas
+pub mod HeldLemmas
+pub mod GatheringLemmas
+pub mod StreamLemmas
+pub mod WrittenLemmas
+pub mod WritingLemmas
+pub mod LawLemmas
