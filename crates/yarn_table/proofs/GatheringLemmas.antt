@@ -82,4 +82,3 @@ module _ (base : List BaseLine) (rows : List Row) (g : Gathered) (is : IsGathere
       e ∙ ap (λ ids. zip ids (read_among g.held.items)) is.ids ∙ ap (λ hs. zip (map (λ line. line.id) base) (read_among hs)) is.held
       ∙ ap (zip (map (λ line. line.id) base)) (read-among base rows none fine) ∙ zip-entries (text_for rows) base in
       reads_table rows base (sym is.repeated ∙ once) none fine ∙ ap Ok (sym whole)
-

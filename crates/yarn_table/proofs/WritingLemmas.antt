@@ -53,7 +53,7 @@ writing_more contents w new names base i line file node is l item named titled t
     let fields : line_fields file node line ≡ fields_of_line names line = ap (λ f. line_fields f node line) named ∙ ap (λ n. line_fields (get_or names.0 line.file []) n line) titled in
     subst (IsWriting contents new names) (sym more) (record {
       stands = subst (Stands contents new)
-        (ap (λ fs. table_text names done ++ row_text default_writer fs) fields ∙ sym (text_longer names done line)) (step (table_text names done) is.stands);
+          (ap (λ fs. table_text names done ++ row_text default_writer fs) fields ∙ sym (text_longer names done line)) (step (table_text names done) is.stands);
       texts = All-push (λ line. AllText (fields_of_line names line)) done line is.texts (subst AllText fields text);
     })
 

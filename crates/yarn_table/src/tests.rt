@@ -1,9 +1,8 @@
-//! Each public call with ample memory, and a table of files with what each is read as.
+//! A table of files, with what each is read as.
 ghost use Rattle.std.specs.Prelude.{All, IfOk};
 ghost use Rattle.yarn_table.specs.Tables.{AreDistinct, IsTemplate};
-ghost use Rattle.yarn_table.specs.Written.{IsWithin};
 
-use crate::{StringTable, TableFault, read_table, write_table};
+use crate::{StringTable, TableFault, read_table};
 use std::alloc::Global;
 use std::test::Fail;
 use yarn_base::{List, Memory, Text};
@@ -107,7 +106,10 @@ fn files_are_read(rt: HostRuntime) -> Result<(), Fail> {
         (b"id,text\na,x\nb,y\n", "x|y|"),
         (b"id,text\nb,y\na,x\n", "x|y|"),
         (b"text,id\nx,a\ny,b\n", "x|y|"),
-        (b"text,note,id\n\"{1}: {0}!\",x,a\ny,x,b\nzzz,y,other\n", "apples: 3!|y|"),
+        (
+            b"text,note,id\n\"{1}: {0}!\",x,a\ny,x,b\nzzz,y,other\n",
+            "apples: 3!|y|",
+        ),
         (b"id,text,text\na,x,1\nb,y,2\n", "x|y|"),
         (b"id,id,text\na,b,x\nb,a,y\n", "x|y|"),
         (b"id,text\na,x\nb,y", "x|y|"),
@@ -115,9 +117,15 @@ fn files_are_read(rt: HostRuntime) -> Result<(), Fail> {
         (b"id,text\n\na,x\n\n\nb,y\n", "x|y|"),
         (b"\xEF\xBB\xBFid,text\na,x\nb,y\n", "x|y|"),
         (b"\xEF\xBB\xBF\xEF\xBB\xBFid,text\na,x\nb,y\n", "x|y|"),
-        (b"\xEF\xBB\xBF\xEF\xBB\xBF\xEF\xBB\xBFid,text\na,x\nb,y\n", "NoColumn"),
+        (
+            b"\xEF\xBB\xBF\xEF\xBB\xBF\xEF\xBB\xBFid,text\na,x\nb,y\n",
+            "NoColumn",
+        ),
         (b"\"id\",\"text\"\n\"a\",\"x\"\nb,y\n", "x|y|"),
-        (b"id,text\na,\"\"\"{1}\"\"\n{0}, =\"\nb,y\n", "\"apples\"\n3, =|y|"),
+        (
+            b"id,text\na,\"\"\"{1}\"\"\n{0}, =\"\nb,y\n",
+            "\"apples\"\n3, =|y|",
+        ),
         (b"id,text\na, x \nb,\n", " x ||"),
         (b"id,text\na,\\{0\\}{0}\\[\nb,{0}{0}\n", "{0}3\\[|33|"),
         (b"id,text\na,x\nb,\"y", "x|y|"),
@@ -145,26 +153,5 @@ fn files_are_read(rt: HostRuntime) -> Result<(), Fail> {
         let got = told(rt.alloc(), file, &base)?;
         assert_eq!(rt; got.as_str(), want, "{file:?}");
     }
-    Ok(())
-}
-
-#[test]
-fn written_is_read_again(rt: HostRuntime) -> Result<(), Fail> {
-    let alloc = rt.alloc();
-    let base = two_lines(alloc)?;
-    let mut files = List::new(alloc);
-    files.push(Text::from_str(alloc, "a.yarn")?)?;
-    let mut nodes = List::new(alloc);
-    nodes.push(Text::from_str(alloc, "Start, again")?)?;
-    let bytes = write_table(alloc, &base, &files, &nodes)?;
-    assert_eq!(rt;
-        bytes.as_slice(),
-        b"id,text,file,node,lineNumber\na,I have {0} of {1}.,a.yarn,\"Start, again\",5\nb,\"=\"\"{0}\"\",\r\n\",a.yarn,\"Start, again\",6\n".as_slice()
-    );
-    let want = "I have 3 of apples.|=\"3\",\r\n|";
-    let own = StringTable::from_base(alloc, &base)?;
-    assert_eq!(rt; texts(alloc, &own)?.as_str(), want);
-    assert_eq!(rt; told(alloc, bytes.as_slice(), &base)?.as_str(), want);
-    assert_eq!(rt; filled(alloc, &own, "c")?.as_str(), "none");
     Ok(())
 }
