@@ -1,5 +1,9 @@
 //! The trusted edge: real files, readers and writers. They tell no content, and count each `Err` of std.
-ghost use Rattle.std.specs.Prelude.{◌≡◌, None};
+ghost use Rattle.std.specs.Prelude.{◌≡◌, Ok, None, IfOk, OnOk, OnErr};
+ghost use Rattle.std.specs.Result.{IsErr};
+ghost use Rattle.yarn_base.specs.Adapters.{IsTaken};
+ghost use Rattle.yarn_base.specs.Calls.{one_more};
+ghost use Rattle.yarn_base.specs.Causes.{FailsByCount, HasCause};
 
 use crate::{Failed, Files, IoFault, List, Sink, Source, Text};
 use std::alloc::Global;
@@ -44,13 +48,13 @@ impl<R: rt::Files + Drop> Files for RealFiles<R> {
         let Ok(copy) = name.copy() else {
             return Err(IoFault::Memory);
         };
-        match read_first(&self.rt, alloc, name.as_str(), max) {
+        let answer = read_first(&self.rt, alloc, name.as_str(), max);
+        match counted(answer, &mut self.read_faults) {
             Ok(mut bytes) => {
                 bytes.truncate(max + 1);
                 Ok(bytes)
             }
-            Err(_) => {
-                self.read_faults = self.read_faults.saturating_add(1);
+            Err(Failed) => {
                 self.latest_fault = Some(copy);
                 Err(IoFault::Failed)
             }
@@ -58,13 +62,8 @@ impl<R: rt::Files + Drop> Files for RealFiles<R> {
     }
 
     fn write(&mut self, name: &Text, bytes: &List<u8>) -> Result<(), IoFault> {
-        match fs::write(&self.rt, name.as_str(), bytes.as_slice()) {
-            Ok(()) => Ok(()),
-            Err(_) => {
-                self.write_faults = self.write_faults.saturating_add(1);
-                Err(IoFault::Failed)
-            }
-        }
+        let answer = fs::write(&self.rt, name.as_str(), bytes.as_slice());
+        counted(answer, &mut self.write_faults).map_err(|_| IoFault::Failed)
     }
 }
 
@@ -74,6 +73,38 @@ fn read_first<R: rt::Files>(rt: &R, alloc: Global, name: &str, max: usize) -> io
     let most = (max as u64).saturating_add(1);
     fs::open(rt, name)?.take(most).read_to_end(&mut bytes)?;
     Ok(bytes)
+}
+
+// What std answered: an `Ok` as it is, and an `Err` as a fault that is counted.
+fn counted<T>(answer: io::Result<T>, faults: &mut u64) -> Result<T, Failed>
+    ensures ok { IfOk answer (λ v. result ≡ Ok v) }
+    ensures ok_count { OnOk answer (faults.new ≡ faults.old) }
+    ensures err { OnErr answer (IsErr result) }
+    ensures err_count { OnErr answer (faults.new ≡ one_more faults.old) }
+    ensures cause { FailsByCount faults.old faults.new result }
+{
+    match answer {
+        Ok(value) => Ok(value),
+        Err(_) => {
+            *faults = faults.saturating_add(1);
+            Err(Failed)
+        }
+    }
+}
+
+// What a writer answered: to take nothing of a piece that isn't empty is a fault too.
+fn taken(answer: io::Result<usize>, empty: bool, faults: &mut u64) -> Result<usize, IoFault>
+    ensures made { IsTaken answer empty faults.old faults.new result }
+    ensures bound { OnOk result (IfOk answer (λ n. result ≡ Ok n)) }
+    ensures cause { HasCause faults.old faults.new result }
+{
+    match answer {
+        Ok(count) if count > 0 || empty => Ok(count),
+        _ => {
+            *faults = faults.saturating_add(1);
+            Err(IoFault::Failed)
+        }
+    }
 }
 
 /// A reader of the system, as standard input. It tells no bytes. The rule is docs/outside.md, "The adapters".
@@ -100,13 +131,8 @@ impl<R: Read + Drop> Source for ReaderSource<R> {
     ghost faults = { λ s. s.faults };
 
     fn read(&mut self, into: &mut [u8]) -> Result<usize, Failed> {
-        match self.reader.read(into) {
-            Ok(count) => Ok(count),
-            Err(_) => {
-                self.faults = self.faults.saturating_add(1);
-                Err(Failed)
-            }
-        }
+        let answer = self.reader.read(into);
+        counted(answer, &mut self.faults)
     }
 }
 
@@ -134,12 +160,7 @@ impl<W: Write + Drop> Sink for WriterSink<W> {
     ghost faults = { λ s. s.faults };
 
     fn write(&mut self, from: &[u8]) -> Result<usize, IoFault> {
-        match self.writer.write(from) {
-            Ok(count) if count > 0 || from.is_empty() => Ok(count),
-            _ => {
-                self.faults = self.faults.saturating_add(1);
-                Err(IoFault::Failed)
-            }
-        }
+        let answer = self.writer.write(from);
+        taken(answer, from.is_empty(), &mut self.faults)
     }
 }

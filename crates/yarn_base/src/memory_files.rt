@@ -151,7 +151,7 @@ impl Files for MemoryFiles {
     ghost write_faults = { write_faults_in };
 
     /// Fails where its number was given to `fail_read`, or where there is no such file. A failing read may
-    /// also answer `Memory`.
+    /// also answer `Memory`: its name is kept as that of the latest fault, and the copy takes memory.
     fn read(&mut self, alloc: Global, name: &Text, max: usize) -> Result<Vec<u8>, IoFault>
         requires { max ≤ 1073741824 }
         ensures bytes { IfOk result (λ v. GivesFile (Some (stored_in self.old)) name.now max v.items) }
