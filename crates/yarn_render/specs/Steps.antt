@@ -1,0 +1,9 @@
+-- Words of private functions.
+use Rattle.std.specs.Prelude.{◌≡◌, ℕ, List, ◌++◌, Result, Ok, Err, ⊤}
+use Rattle.yarn_base.specs.declared.memory.Memory.{Memory}
+
+-- bytes that the relation allows were put behind
+pub record Puts (Allows : List ℕ → Type 0) (old new : List ℕ) : Type 0 where
+  pub bytes : List ℕ
+  pub allowed : Allows bytes
+  pub put : new ≡ old ++ bytes

@@ -1,0 +1,80 @@
+//! The text of an event.
+ghost use Rattle.std.specs.Prelude.{◌≡◌, ◌++◌, All, IfOk, OnOk, codes};
+ghost use Rattle.yarn_render.specs.Marks.{ended};
+ghost use Rattle.yarn_render.specs.Renders.{HasText, HasTexts, Renders, ShowsOptions, option_start};
+ghost use Rattle.yarn_render.specs.Steps.{Puts};
+
+use crate::shown::push_under;
+use std::alloc::Global;
+use yarn_base::{Memory, Text};
+use yarn_code::{Choice, Event};
+use yarn_plural::PluralTable;
+use yarn_table::StringTable;
+
+/// What is written of an event (docs/language.md, The transcript): the texts of the table under its ids with the values put
+/// in, without their markup. Options count from 1. With marks a line for each attribute follows each of these texts; its
+/// start and its length are in Unicode scalar values of the plain text, from 0. The table has each id of the event, with as
+/// many holes as there are values. The only error is want of memory, which a text of more than 1,073,741,824 bytes with its
+/// values put in is answered with too.
+pub fn render(
+    alloc: Global,
+    event: &Event,
+    table: &StringTable,
+    plural: &PluralTable,
+    marks: bool,
+) -> Result<Text, Memory>
+    requires { HasTexts table.now event.now }
+    ensures { IfOk result (λ text. Renders table.now plural.now marks event.now text) }
+{
+    let mut out = Text::from_str(alloc, "")?;
+    match event {
+        Event::Line(id, values) => push_under(alloc, &mut out, id, values, table, plural, marks)?,
+        Event::Options(choices) => {
+            push_options(alloc, &mut out, choices.as_slice(), table, plural, marks)?
+        }
+        Event::Rejected => out.push_str("(no such choice)\n")?,
+        Event::Command(command) => push_command(&mut out, command)?,
+        Event::NodeStart(_) | Event::NodeEnd(_) | Event::End => {}
+    }
+    Ok(out)
+}
+
+fn push_command(out: &mut Text, command: &Text) -> Result<(), Memory>
+    ensures { OnOk result (out.new ≡ out.old ++ ended (codes "<<" ++ (command.now ++ codes ">>"))) }
+{
+    out.push_str("<<")?;
+    out.push_str(command.as_str())?;
+    out.push_str(">>\n")
+}
+
+fn push_options(
+    alloc: Global,
+    out: &mut Text,
+    choices: &[Choice],
+    table: &StringTable,
+    plural: &PluralTable,
+    marks: bool,
+) -> Result<(), Memory>
+    requires { All (λ choice. HasText table.now choice.id choice.values) choices.now }
+    ensures { OnOk result (Puts (ShowsOptions table.now plural.now marks 1 choices.now) out.old out.new) }
+{
+    let mut number = 1u64;
+    for choice in choices {
+        push_start(alloc, out, number, choice.available)?;
+        push_under(alloc, out, &choice.id, &choice.values, table, plural, marks)?;
+        number = number.checked_add(1).ok_or(Memory)?;
+    }
+    Ok(())
+}
+
+// What stands before the text of an option.
+fn push_start(alloc: Global, out: &mut Text, number: u64, available: bool) -> Result<(), Memory>
+    ensures { OnOk result (out.new ≡ out.old ++ option_start number available) }
+{
+    let start = format!(in alloc; "{number}) ")?;
+    out.push_str(start.as_str())?;
+    if !available {
+        out.push_str("[closed] ")?;
+    }
+    Ok(())
+}

@@ -1,0 +1,8 @@
+//! What is written of the events of a conversation.
+#![tactic(auto)]
+
+mod attribute;
+mod event;
+mod shown;
+
+pub use event::render;
