@@ -15,7 +15,7 @@ property_text property = codes " " ++ (property.name ++ (codes "=" ++ quoted pro
 
 abbrev pub properties_text : List Property → List ℕ
 properties_text [] = []
-properties_text (p ∷ ps) = property_text p ++ properties_text ps
+properties_text (p ∷ rest) = property_text p ++ properties_text rest
 
 -- `@name start length`
 abbrev pub place_text : Attribute → List ℕ
@@ -24,4 +24,4 @@ place_text attribute = codes "@" ++ (attribute.name ++ (codes " " ++ (decimal at
 -- one line for each attribute, in their order
 abbrev pub attribute_lines : List Attribute → List ℕ
 attribute_lines [] = []
-attribute_lines (a ∷ as) = ended (place_text a ++ properties_text a.properties) ++ attribute_lines as
+attribute_lines (a ∷ rest) = ended (place_text a ++ properties_text a.properties) ++ attribute_lines rest

@@ -1,6 +1,5 @@
 -- Words of private functions.
-use Rattle.std.specs.Prelude.{◌≡◌, ℕ, List, ◌++◌, Result, Ok, Err, ⊤}
-use Rattle.yarn_base.specs.declared.memory.Memory.{Memory}
+use Rattle.std.specs.Prelude.{◌≡◌, ℕ, List, ◌++◌}
 
 -- bytes that the relation allows were put behind
 pub record Puts (Allows : List ℕ → Type 0) (old new : List ℕ) : Type 0 where
