@@ -4,5 +4,7 @@
 mod attribute;
 mod event;
 mod shown;
+#[cfg(test)]
+mod tests;
 
 pub use event::render;
