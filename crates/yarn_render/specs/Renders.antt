@@ -77,3 +77,13 @@ HasTexts table (Command command) = ⊤
 HasTexts table (NodeStart title) = ⊤
 HasTexts table (NodeEnd title) = ⊤
 HasTexts table End = ⊤
+
+-- ---- transcripts
+
+-- the texts of the events joined
+pub data IsTranscript (table : Table) (plural : PluralTable) (marks : Bool) : List Event → List ℕ → Type 0 where
+  nothing : IsTranscript table plural marks [] []
+  further : {event : Event} {events : List Event} (text rest : List ℕ) →
+      Renders table plural marks event text →
+      IsTranscript table plural marks events rest →
+      IsTranscript table plural marks (event ∷ events) (text ++ rest)

@@ -3,8 +3,10 @@
 
 mod attribute;
 mod event;
+mod laws;
 mod shown;
 #[cfg(test)]
 mod tests;
 
 pub use event::render;
+pub use laws::{each_rendered, one_rendering};
