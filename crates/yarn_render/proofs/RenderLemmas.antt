@@ -1,15 +1,51 @@
 -- What is put behind a text piece by piece.
-use Rattle.std.proofs.Common.{◌≡◌, ℕ, suc, ◌+◌, ◌<◌, List, [], ◌∷◌, ◌++◌, length, drop, get_or, Bool, Result, Ok, Err, OnOk, refl, sym, ap, ◌∙◌, subst, add-one, drop-cons, append_assoc}
+use Rattle.std.proofs.Common.{◌≡◌, ℕ, suc, ◌+◌, ◌<◌, List, [], ◌∷◌, ◌++◌, length, drop, get_or, Bool, true, false, IsUtf8, Result, Ok, Err, OnOk, IfOk, refl, sym, ap, ◌∙◌, subst, add-one, drop-cons, append_assoc}
 use Rattle.std.proofs.lemmas.List.{append-nil}
+use Rattle.std.specs.List.{list_all}
+use Rattle.std.specs.Str.{chars}
+use Rattle.yarn_value.specs.Templates.{Form, expanded}
+use Rattle.yarn_value.specs.declared.value.Value.{Value}
 use Rattle.yarn_code.specs.declared.event.Choice.{Choice}
 use Rattle.yarn_table.specs.Tables.{Table}
 use Rattle.yarn_plural.specs.declared.table.PluralTable.{PluralTable}
-use Rattle.yarn_render.specs.Renders.{ShowsUnder, ShowsOptions, none, more, option_start}
-use Rattle.yarn_render.specs.Steps.{Puts}
+use Rattle.yarn_markup.specs.Plain.{is_ordinary}
+use Rattle.yarn_markup.proofs.PlainLemmas.{plain_markup}
+use Rattle.yarn_render.specs.Marks.{ended}
+use Rattle.yarn_render.specs.Renders.{marks_text, Shows, marked, ShowsUnder, ShowsOptions, none, more, option_start}
+use Rattle.yarn_render.specs.Steps.{IsFilled, Puts}
 
 pub puts_ok : {V E : Type 0} (r : Result V E) (Allows : List ℕ → Type 0) (old new bytes : List ℕ) → Allows bytes → OnOk r (new ≡ old ++ bytes) → OnOk r (Puts Allows old new)
 puts_ok (Ok v) Allows old new bytes allowed put = record { bytes = bytes; allowed = allowed; put = put }
 puts_ok (Err e) Allows old new bytes allowed put = put
+
+pub if_ok : {E : Type 0} (r : Result (List ℕ) E) (P Q : List ℕ → Type 0) → ((text : List ℕ) → P text → Q text) → IfOk r P → IfOk r Q
+if_ok (Ok text) P Q leads is = leads text is
+if_ok (Err e) P Q leads is = is
+
+-- a text that can have no markup is shown as it is
+pub plain_shows : (plural : PluralTable) (marks : Bool) (text shown : List ℕ) → IsUtf8 text → list_all is_ordinary (chars text) ≡ true → shown ≡ ended text →
+    Shows plural marks text shown
+plain_shows plural marks text shown utf8 plain e =
+    subst (λ (l : List ℕ). Shows plural marks text l) (without_lines marks ∙ sym e)
+    (marked (record { plain = text; attributes = [] }) (plain_markup plural text text [] utf8 plain refl refl))
+  where
+    without_lines : (marks : Bool) → ended text ++ marks_text marks [] ≡ ended text
+    without_lines true = append-nil (ended text)
+    without_lines false = append-nil (ended text)
+
+-- what a text with its values is shown as is what its id is
+pub filled_shows : (table : Table) (plural : PluralTable) (marks : Bool) (id : List ℕ) (values : List Value) (text shown : List ℕ) →
+    IsFilled table id values text → Shows plural marks text shown → ShowsUnder table plural marks id values shown
+filled_shows table plural marks id values text shown is shows = record {
+  form = is.form;
+  found = is.found;
+  shows = subst (λ (l : List ℕ). Shows plural marks l shown) is.filled shows;
+}
+
+pub filled_puts : (table : Table) (plural : PluralTable) (marks : Bool) (id : List ℕ) (values : List Value) (text old new : List ℕ) →
+    IsFilled table id values text → Puts (Shows plural marks text) old new → Puts (ShowsUnder table plural marks id values) old new
+filled_puts table plural marks id values text old new is puts =
+    record { bytes = puts.bytes; allowed = filled_shows table plural marks id values text puts.bytes is puts.allowed; put = puts.put }
 
 -- where these options are left, whatever they are written as, the whole is written behind the first text
 abbrev pub Leads : (Table) → PluralTable → Bool → List Choice → List ℕ → ℕ → List Choice → List ℕ → Type 0

@@ -4,7 +4,7 @@ ghost use Rattle.yarn_render.specs.Marks.{ended};
 ghost use Rattle.yarn_render.specs.Renders.{HasText, HasTexts, Renders, ShowsOptions, option_start};
 ghost use Rattle.yarn_render.specs.Steps.{Puts};
 
-use crate::shown::push_under;
+use crate::shown::{push_under, shown_under};
 use std::alloc::Global;
 use yarn_base::{Memory, Text};
 use yarn_code::{Choice, Event};
@@ -26,25 +26,37 @@ pub fn render(
     requires { HasTexts table.now event.now }
     ensures { IfOk result (λ text. Renders table.now plural.now marks event.now text) }
 {
-    let mut out = Text::from_str(alloc, "")?;
     match event {
-        Event::Line(id, values) => push_under(alloc, &mut out, id, values, table, plural, marks)?,
-        Event::Options(choices) => {
-            push_options(alloc, &mut out, choices.as_slice(), table, plural, marks)?
-        }
-        Event::Rejected => out.push_str("(no such choice)\n")?,
-        Event::Command(command) => push_command(&mut out, command)?,
-        Event::NodeStart(_) | Event::NodeEnd(_) | Event::End => {}
+        Event::Line(id, values) => shown_under(alloc, id, values, table, plural, marks),
+        Event::Options(choices) => options_text(alloc, choices.as_slice(), table, plural, marks),
+        Event::Rejected => Text::from_str(alloc, "(no such choice)\n"),
+        Event::Command(command) => command_text(alloc, command),
+        Event::NodeStart(_) | Event::NodeEnd(_) | Event::End => Text::from_str(alloc, ""),
     }
-    Ok(out)
 }
 
-fn push_command(out: &mut Text, command: &Text) -> Result<(), Memory>
-    ensures { OnOk result (out.new ≡ out.old ++ ended (codes "<<" ++ (command.now ++ codes ">>"))) }
+fn command_text(alloc: Global, command: &Text) -> Result<Text, Memory>
+    ensures { IfOk result (λ text. text ≡ ended (codes "<<" ++ (command.now ++ codes ">>"))) }
 {
-    out.push_str("<<")?;
-    out.push_str(command.as_str())?;
-    out.push_str(">>\n")
+    let mut text = Text::from_str(alloc, "<<")?;
+    text.push_str(command.as_str())?;
+    text.push_str(">>\n")?;
+    Ok(text)
+}
+
+fn options_text(
+    alloc: Global,
+    choices: &[Choice],
+    table: &StringTable,
+    plural: &PluralTable,
+    marks: bool,
+) -> Result<Text, Memory>
+    requires { All (λ choice. HasText table.now choice.id choice.values) choices.now }
+    ensures { IfOk result (λ text. ShowsOptions table.now plural.now marks 1 choices.now text) }
+{
+    let mut text = Text::from_str(alloc, "")?;
+    push_options(alloc, &mut text, choices, table, plural, marks)?;
+    Ok(text)
 }
 
 fn push_options(

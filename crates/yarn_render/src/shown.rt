@@ -1,8 +1,11 @@
 //! The texts of lines and options as they are shown.
-ghost use Rattle.std.specs.Prelude.{◌≡◌, ◌++◌, OnOk, codes};
+ghost use Rattle.std.specs.Prelude.{◌≡◌, ◌++◌, IfOk, OnOk, codes};
+ghost use Rattle.std.specs.List.{list_all};
+ghost use Rattle.std.specs.Str.{chars};
+ghost use Rattle.yarn_markup.specs.Plain.{is_ordinary};
 ghost use Rattle.yarn_render.specs.Marks.{ended};
 ghost use Rattle.yarn_render.specs.Renders.{HasText, Shows, ShowsUnder, marks_text};
-ghost use Rattle.yarn_render.specs.Steps.{Puts};
+ghost use Rattle.yarn_render.specs.Steps.{IsFilled, Puts};
 
 use crate::attribute::push_attributes;
 use std::alloc::Global;
@@ -14,6 +17,27 @@ use yarn_value::{Value, expand};
 
 // The most bytes in which markup is read.
 const TEXT_LIMIT: usize = 1073741824;
+
+/// What an id with these values is shown as. A text that can have no markup takes no further memory.
+pub(crate) fn shown_under(
+    alloc: Global,
+    id: &Text,
+    values: &List<Value>,
+    table: &StringTable,
+    plural: &PluralTable,
+    marks: bool,
+) -> Result<Text, Memory>
+    requires { HasText table.now id.now values.now }
+    ensures { IfOk result (λ shown. ShowsUnder table.now plural.now marks id.now values.now shown) }
+{
+    let text = filled(alloc, id, values, table)?;
+    if is_ordinary(text.as_str()) {
+        return ended_with_lf(text);
+    }
+    let mut shown = Text::from_str(alloc, "")?;
+    push_shown(alloc, &mut shown, &text, plural, marks)?;
+    Ok(shown)
+}
 
 /// Puts what an id with these values is shown as behind the text.
 pub(crate) fn push_under(
@@ -28,13 +52,39 @@ pub(crate) fn push_under(
     requires { HasText table.now id.now values.now }
     ensures { OnOk result (Puts (ShowsUnder table.now plural.now marks id.now values.now) out.old out.new) }
 {
+    let text = filled(alloc, id, values, table)?;
+    push_shown(alloc, out, &text, plural, marks)?;
+    Ok(())
+}
+
+// The template of the id with the values put in.
+fn filled(
+    alloc: Global,
+    id: &Text,
+    values: &List<Value>,
+    table: &StringTable,
+) -> Result<Text, Memory>
+    requires { HasText table.now id.now values.now }
+    ensures { IfOk result (λ text. IsFilled table.now id.now values.now text) }
+{
     match table.text(id) {
-        Some(template) => {
-            let text = expand(alloc, template, values)?;
-            push_shown(alloc, out, &text, plural, marks)
-        }
+        Some(template) => expand(alloc, template, values),
         None => unreachable!(),
     }
+}
+
+// Whether no character of the text can be markup or end the name of who speaks.
+fn is_ordinary(text: &str) -> bool
+    ensures { result ≡ list_all is_ordinary (chars text.now) }
+{
+    text.chars().all(|c| c != '[' && c != '\\' && c != ':')
+}
+
+fn ended_with_lf(mut text: Text) -> Result<Text, Memory>
+    ensures { IfOk result (λ line. line ≡ ended text) }
+{
+    text.push_str("\n")?;
+    Ok(text)
 }
 
 // Puts a text as it is shown behind the text.
