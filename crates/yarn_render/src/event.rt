@@ -1,4 +1,4 @@
-//! The text of an event.
+//! What is written of an event.
 ghost use Rattle.std.specs.Prelude.{◌≡◌, ◌++◌, All, IfOk, OnOk, codes};
 ghost use Rattle.yarn_render.specs.Marks.{ended};
 ghost use Rattle.yarn_render.specs.Renders.{HasText, HasTexts, Renders, ShowsOptions, option_start};
@@ -11,11 +11,14 @@ use yarn_code::{Choice, Event};
 use yarn_plural::PluralTable;
 use yarn_table::StringTable;
 
-/// What is written of an event (docs/language.md, The transcript): the texts of the table under its ids with the values put
-/// in, without their markup. Options count from 1. With marks a line for each attribute follows each of these texts; its
-/// start and its length are in Unicode scalar values of the plain text, from 0. The table has each id of the event, with as
-/// many holes as there are values. The only error is want of memory, which a text of more than 1,073,741,824 bytes with its
-/// values put in is answered with too.
+/// What is written of an event: its part of the transcript (docs/language.md, The transcript).
+///
+/// A line or an option is written as the table's text of its id, with the values put in and the markup read; options count
+/// from 1. With `marks`, a line for each attribute follows each such text; its start and its length are in Unicode scalar
+/// values of the plain text. Each line of what is written ends with LF.
+///
+/// The table has each id of the event, with as many holes as there are values. The only error is want of memory. A text
+/// that has more than 1,073,741,824 bytes with its values put in may be answered so too.
 pub fn render(
     alloc: Global,
     event: &Event,

@@ -15,7 +15,7 @@ use yarn_plural::PluralTable;
 use yarn_table::StringTable;
 use yarn_value::{Value, expand};
 
-// The most bytes in which markup is read.
+// The most bytes of a text of which `read_markup` reads the markup.
 const TEXT_LIMIT: usize = 1073741824;
 
 /// What an id with these values is shown as. A text that can have no markup takes no further memory.
