@@ -5,7 +5,6 @@ use Rattle.std.specs.Str.{chars}
 use Rattle.yarn_value.specs.Templates.{Form, expanded}
 use Rattle.yarn_value.specs.declared.value.Value.{Value}
 use Rattle.yarn_code.specs.declared.event.Choice.{Choice}
-use Rattle.yarn_code.specs.declared.event.Event.{Event}
 use Rattle.yarn_code.specs.declared.event.Event.TheVariants.{NodeStart, Line, Options, Rejected, Command, NodeEnd, End}
 use Rattle.yarn_table.specs.Tables.{Table, template_under}
 use Rattle.yarn_plural.specs.declared.table.PluralTable.{PluralTable}
@@ -14,8 +13,8 @@ use Rattle.yarn_markup.specs.Markup.{Answered}
 use Rattle.yarn_markup.specs.Markup as answer
 use Rattle.yarn_markup.proofs.MarkupLemmas.{one_reading, none_refused, each_answered}
 use Rattle.yarn_render.specs.Marks.{ended}
-use Rattle.yarn_render.specs.Renders.{marks_text, Shows, marked, refused, ShowsUnder, ShowsOptions, none, more, option_start, Renders, HasText, HasTexts, IsTranscript, nothing, further}
-use Rattle.yarn_render.specs.Laws.{HasRendering, HasTranscript, OneRendering, EachRendered, OneTranscript, EachTranscript}
+use Rattle.yarn_render.specs.Renders.{marks_text, Shows, marked, refused, ShowsUnder, ShowsOptions, none, more, option_start, HasText, HasTexts, nothing, further}
+use Rattle.yarn_render.specs.Laws.{OneRendering, EachRendered, OneTranscript, EachTranscript}
 
 -- ---- one text at most
 

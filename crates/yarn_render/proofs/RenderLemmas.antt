@@ -3,7 +3,6 @@ use Rattle.std.proofs.Common.{◌≡◌, ℕ, suc, ◌+◌, ◌<◌, List, [], �
 use Rattle.std.proofs.lemmas.List.{append-nil}
 use Rattle.std.specs.List.{list_all}
 use Rattle.std.specs.Str.{chars}
-use Rattle.yarn_value.specs.Templates.{Form, expanded}
 use Rattle.yarn_value.specs.declared.value.Value.{Value}
 use Rattle.yarn_code.specs.declared.event.Choice.{Choice}
 use Rattle.yarn_table.specs.Tables.{Table}
