@@ -1,5 +1,6 @@
 //! Events with what is written of them, worked out by hand from docs/language.md, The transcript and Markup.
-ghost use Rattle.std.specs.Prelude.{◌≡◌, All, IsTrue};
+ghost use Rattle.std.specs.Prelude.{◌≡◌, All, IfOk, IsTrue, is_some, true};
+ghost use Rattle.yarn_value.specs.Templates.{template_of};
 ghost use Rattle.yarn_render.specs.Renders.{HasText, HasTexts};
 
 use crate::render;
@@ -10,7 +11,7 @@ use yarn_base::{List, Memory, Text};
 use yarn_code::{Choice, Event};
 use yarn_plural::{PluralTable, english, read_plural};
 use yarn_table::StringTable;
-use yarn_value::{BaseLine, Value, read_template};
+use yarn_value::{BaseLine, TemplateFault, Value, read_template};
 
 /// An event whose ids all have the template of its case.
 enum Given {
@@ -231,12 +232,22 @@ fn holes_of(given: &Given) -> u8 {
     }
 }
 
+fn is_template(alloc: Global, text: &Text, holes: u8) -> Result<bool, Memory>
+    ensures { IfOk result (λ is. IsTrue is → is_some (template_of text.now holes) ≡ true) }
+{
+    match read_template(alloc, text, holes as u32) {
+        Ok(_) => Ok(true),
+        Err(TemplateFault::NotTemplate) => Ok(false),
+        Err(TemplateFault::Memory) => Err(Memory),
+    }
+}
+
 // The table that has this template alone, under the id `t`.
 fn table_of(alloc: Global, template: &str, holes: u8) -> Result<Option<StringTable>, Memory> {
     let text = Text::from_str(alloc, template)?;
-    let Ok(_) = read_template(alloc, &text, holes as u32) else {
+    if !is_template(alloc, &text, holes)? {
         return Ok(None);
-    };
+    }
     let mut base = List::new(alloc);
     let line = BaseLine {
         id: Text::from_str(alloc, "t")?,
