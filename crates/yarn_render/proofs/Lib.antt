@@ -1,0 +1,2 @@
+pub mod RenderLemmas
+pub mod LawLemmas

@@ -1,0 +1,4 @@
+pub mod Marks
+pub mod Renders
+pub mod Laws
+pub mod Steps
