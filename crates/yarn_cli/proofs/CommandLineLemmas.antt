@@ -7,7 +7,7 @@ use Rattle.std.specs.Str.{bytes_eq}
 use Rattle.std.proofs.lemmas.Slice.Eq.{bytes_eq-Decides}
 use Rattle.yarn_base.specs.declared.memory.Memory.{Memory}
 use Rattle.yarn_cli.specs.declared.command.CommandKind.{CommandKind}
-use Rattle.yarn_cli.specs.declared.command.CommandKind.TheVariants.{Check, Format, Play}
+use Rattle.yarn_cli.specs.declared.command.CommandKind.TheVariants.{Check, Format, Strings, Play}
 use Rattle.yarn_cli.specs.declared.command.Pair.{Pair}
 use Rattle.yarn_cli.specs.Command.{Command, value_of}
 use Rattle.yarn_cli.specs.CommandLine.{Row, CommandLine, IsPairOf, Once, word_of, rows_of, row_in, dashed, fits_form, fits_row, is_count_of, are_names_of, spelled, spelled_pairs}
@@ -125,26 +125,29 @@ line-only kind (word ∷ value ∷ words) taken command are e =
 none-taken : (kind : CommandKind) → AreTaken kind []
 none-taken kind = record { pairs = All-nil (IsPairOf kind); once = tt }
 
-kind_of-word : (word : List ℕ) (kind : CommandKind) → kind_of word ≡ Some kind → word ≡ word_of kind
-kind_of-word word kind e = by_test (bytes_eq word (word_of Check)) (bytes_eq word (word_of Play)) (bytes_eq word (word_of Format)) refl refl refl
+-- the word is this command's, or one of the others'
+this-or-other : (kind this : CommandKind) (word : List ℕ) (other : Option CommandKind) →
+    (if bytes_eq word (word_of this) then Some this else other) ≡ Some kind → (other ≡ Some kind → word ≡ word_of kind) → word ≡ word_of kind
+this-or-other kind this word other e of_other = by_test (bytes_eq word (word_of this)) refl
   where
-    by_test : (a b c : Bool) → bytes_eq word (word_of Check) ≡ a → bytes_eq word (word_of Play) ≡ b → bytes_eq word (word_of Format) ≡ c →
-        word ≡ word_of kind
-    by_test true b c check play format =
-        let h = rw check at e in
-        let same : Check ≡ kind = cc in subst (λ (k : CommandKind). word ≡ word_of k) same ((bytes_eq-Decides word (word_of Check)).0 check)
-    by_test false true c check play format =
-        let h = rw (check, play) at e in
-        let same : Play ≡ kind = cc in subst (λ (k : CommandKind). word ≡ word_of k) same ((bytes_eq-Decides word (word_of Play)).0 play)
-    by_test false false true check play format =
-        let h = rw (check, play, format) at e in
-        let same : Format ≡ kind = cc in subst (λ (k : CommandKind). word ≡ word_of k) same ((bytes_eq-Decides word (word_of Format)).0 format)
-    by_test false false false check play format = let h = rw (check, play, format) at e in absurd cc
+    by_test : (b : Bool) → bytes_eq word (word_of this) ≡ b → word ≡ word_of kind
+    by_test true is =
+        let h = rw is at e in
+        let same : this ≡ kind = cc in subst (λ (k : CommandKind). word ≡ word_of k) same ((bytes_eq-Decides word (word_of this)).0 is)
+    by_test false is = of_other (rw is at e)
+
+kind_of-word : (word : List ℕ) (kind : CommandKind) → kind_of word ≡ Some kind → word ≡ word_of kind
+kind_of-word word kind e =
+    this-or-other kind Check word _ e
+    (λ e. this-or-other kind Play word _ e
+    (λ e. this-or-other kind Format word _ e
+    (λ e. this-or-other kind Strings word _ e (λ e. absurd cc))))
 
 of_word : (kind : CommandKind) → kind_of (word_of kind) ≡ Some kind
 of_word Check = refl
 of_word Play = refl
 of_word Format = refl
+of_word Strings = refl
 
 line-command : (kind : CommandKind) (word : List ℕ) (words : List (List ℕ)) (command : Command) → word ≡ word_of kind →
     IsLine kind [] words command → CommandLine (word ∷ words) command

@@ -7,3 +7,4 @@ pub mod ReadLemmas
 pub mod RunLemmas
 pub mod WordsLemmas
 mod TreeLemmas
+pub mod StringsLemmas

@@ -4,7 +4,7 @@ use Rattle.std.specs.Prelude.{◌≡◌, ℕ, List, [], ◌∷◌, ◌++◌, len
 use Rattle.std.specs.List.{All, list_all}
 use Rattle.std.specs.Str.{bytes_eq}
 use Rattle.yarn_cli.specs.declared.command.CommandKind.{CommandKind}
-use Rattle.yarn_cli.specs.declared.command.CommandKind.TheVariants.{Check, Format, Play}
+use Rattle.yarn_cli.specs.declared.command.CommandKind.TheVariants.{Check, Format, Strings, Play}
 use Rattle.yarn_cli.specs.declared.words.Form.{Form}
 use Rattle.yarn_cli.specs.declared.words.Form.TheVariants.{Name, Number}
 use Rattle.yarn_cli.specs.declared.command.Pair.{Pair}
@@ -15,6 +15,7 @@ abbrev pub word_of : CommandKind → List ℕ
 word_of Check = codes "check"
 word_of Play = codes "play"
 word_of Format = codes "format"
+word_of Strings = codes "strings"
 
 -- a pair of a command: its name, and what may be given under it
 pub record Row : Type 0 where
@@ -28,12 +29,14 @@ rows_of Play =
     ∷ record { name = codes "vars"; form = Name }
     ∷ record { name = codes "save-vars"; form = Name } ∷ []
 rows_of Format = []
+rows_of Strings = []
 rows_of Check = []
 
 -- how many names the command has
 abbrev pub is_count_of : CommandKind → ℕ → Bool
 is_count_of Check n = nat_lt 0 n
 is_count_of Play n = nat_lt 0 n
+is_count_of Strings n = nat_lt 0 n
 is_count_of Format n = nat_eq n 1
 
 -- the word of a pair's name

@@ -18,3 +18,4 @@ pub mod Sources
 pub mod Status
 pub mod View
 pub mod Words
+pub mod Strings

@@ -22,6 +22,7 @@ use yarn_base::{List, Memory, Text, Words};
 pub enum CommandKind {
     Check,
     Format,
+    Strings,
     Play,
 }
 
@@ -162,7 +163,7 @@ fn is_count(kind: CommandKind, count: usize) -> bool
     ensures { result ≡ is_count_of kind count }
 {
     match kind {
-        CommandKind::Check | CommandKind::Play => 0 < count,
+        CommandKind::Check | CommandKind::Strings | CommandKind::Play => 0 < count,
         CommandKind::Format => count == 1,
     }
 }

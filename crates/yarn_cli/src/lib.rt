@@ -12,6 +12,7 @@ mod read;
 mod row;
 mod run;
 mod status;
+mod strings;
 mod typing;
 mod vars;
 mod words;
@@ -22,6 +23,7 @@ pub use format::run_format;
 pub use play::run_play;
 pub use run::run_yarn;
 pub use status::Status;
+pub use strings::run_strings;
 
 #[cfg(test)]
 mod tests;

@@ -21,6 +21,7 @@ pub(crate) fn kind_in_word(word: &str) -> Option<CommandKind>
     match word {
         "check" => Some(CommandKind::Check),
         "format" => Some(CommandKind::Format),
+        "strings" => Some(CommandKind::Strings),
         "play" => Some(CommandKind::Play),
         _ => None,
     }
@@ -32,7 +33,7 @@ pub(crate) fn row_in_word(kind: CommandKind, word: &str) -> Option<Row>
 {
     match kind {
         CommandKind::Play => play_row(word),
-        CommandKind::Check | CommandKind::Format => None,
+        CommandKind::Check | CommandKind::Format | CommandKind::Strings => None,
     }
 }
 

@@ -6,7 +6,9 @@ ghost use Rattle.yarn_cli.specs.Found.{command_of};
 ghost use Rattle.yarn_cli.specs.Runs.{Runs, files_seen, input_seen, sink_seen};
 
 use crate::message::{say_out_of_memory, say_usage};
-use crate::{Command, CommandKind, Status, read_words, run_check, run_format, run_play};
+use crate::{
+    Command, CommandKind, Status, read_words, run_check, run_format, run_play, run_strings,
+};
 use std::alloc::Global;
 use yarn_base::{Files, Sink, Source, Words};
 
@@ -51,5 +53,6 @@ fn run_command<F: Files, I: Source, O: Sink, E: Sink>(
         CommandKind::Check => run_check(alloc, command, files, input, out, err),
         CommandKind::Play => run_play(alloc, command, files, input, out, err),
         CommandKind::Format => run_format(alloc, command, files, input, out, err),
+        CommandKind::Strings => run_strings(alloc, command, files, input, out, err),
     }
 }
