@@ -4,6 +4,8 @@ pub mod Answers
 pub mod Moments
 pub mod Parts
 pub mod Fields
+pub mod Format
+pub mod FormatReading
 pub mod Kinds
 pub mod MachineState
 pub mod Machine
