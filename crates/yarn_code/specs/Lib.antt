@@ -6,6 +6,9 @@ pub mod Parts
 pub mod Fields
 pub mod Format
 pub mod FormatReading
+pub mod Opcodes
+pub mod Layout
+pub mod Spelling
 pub mod Kinds
 pub mod MachineState
 pub mod Machine
