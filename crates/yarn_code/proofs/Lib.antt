@@ -1,3 +1,4 @@
 pub mod Scanning
+pub mod FieldLemmas
 pub mod Reading
 pub mod ListedLemmas
