@@ -8,7 +8,7 @@ use Rattle.std.proofs.lemmas.List.{take_at, drop_at, take-append-drop, length-ap
 use Rattle.std.proofs.lemmas.Nat.{be_bytes_4, be_bytes_8, from_be_bytes-to_be_bytes_4, from_be_bytes-to_be_bytes_8}
 use Rattle.std.proofs.lemmas.Str.{IsUtf8-from_is_utf8, is_utf8-from_IsUtf8}
 use Rattle.yarn_code.specs.Format.{Size, U8, U32, U64, width, limit, number_bytes, text_bytes, IsNumber, IsText}
-use Rattle.yarn_code.specs.FormatReading.{Read, ◌>>=◌, passing, any_number, number_at, text_of, any_text, text_at}
+use Rattle.yarn_code.specs.FormatReading.{Read, and_then, passing, any_number, number_at, text_of, any_text, text_at}
 
 abbrev pub IsBytes : List ℕ → Type 0
 IsBytes bytes = (i : ℕ) → get_or bytes i 0 < 256
@@ -24,7 +24,7 @@ IsBytes-take n bytes h i =
     ]
 
 -- the value of a step that wasn't refused
-pub bind_ok : {A B : Type 0} (r : Result A ℕ) (f : A → Result B ℕ) (y : B) → (r >>= f) ≡ Ok y → (x : A) × (r ≡ Ok x) × (f x ≡ Ok y)
+pub bind_ok : {A B : Type 0} (r : Result A ℕ) (f : A → Result B ℕ) (y : B) → and_then r f ≡ Ok y → (x : A) × (r ≡ Ok x) × (f x ≡ Ok y)
 bind_ok (Ok x) f y e = (x, refl, e)
 bind_ok (Err left) f y e = absurd cc
 

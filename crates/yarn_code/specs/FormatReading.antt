@@ -10,10 +10,10 @@ use Rattle.yarn_code.specs.Format.{Format, Size, U32, width}
 abbrev pub Read : Type 0 → Type 0
 Read A = Result (A × List ℕ) ℕ
 
-infixl 10 ◌>>=◌
-abbrev pub ◌>>=◌ : {A B : Type 0} → Result A ℕ → (A → Result B ℕ) → Result B ℕ
-(Ok x) >>= after = after x
-(Err left) >>= after = Err left
+-- the first step and what comes after it; nothing comes after a refusal
+abbrev pub and_then : {A B : Type 0} → Result A ℕ → (A → Result B ℕ) → Result B ℕ
+and_then (Ok x) after = after x
+and_then (Err left) after = Err left
 
 -- the value, where it passes a test; else the field at the front of the bytes is refused
 abbrev pub passing : {A : Type 0} → List ℕ → (A → Bool) → A × List ℕ → Read A
@@ -25,24 +25,20 @@ any_number size bytes =
     else Ok (from_be_bytes (width size) (take (byte_len (width size)) bytes), drop (byte_len (width size)) bytes)
 
 abbrev pub number_at : Size → (ℕ → Bool) → List ℕ → Read ℕ
-number_at size test bytes = any_number size bytes >>= λ x. passing bytes test x
+number_at size test bytes = and_then (any_number size bytes) λ x. passing bytes test x
 
 -- the text of so many bytes
 abbrev pub text_of : List ℕ → ℕ × List ℕ → Read (List ℕ)
 text_of bytes n =
     if nat_lt (length n.1) n.0 || not (is_utf8 (take n.0 n.1)) then Err (length bytes) else Ok (take n.0 n.1, drop n.0 n.1)
 
-abbrev pub refused_at : {A : Type 0} → List ℕ → Read A → Read A
-refused_at bytes (Ok x) = Ok x
-refused_at bytes (Err left) = Err (length bytes)
-
 unfoldable pub any_text : List ℕ → Read (List ℕ)
-any_text bytes = any_number U32 bytes >>= λ n. text_of bytes n
+any_text bytes = and_then (any_number U32 bytes) λ n. text_of bytes n
 
 abbrev pub text_at : (List ℕ → Bool) → List ℕ → Read (List ℕ)
-text_at test bytes = any_text bytes >>= λ x. passing bytes test x
+text_at test bytes = and_then (any_text bytes) λ x. passing bytes test x
 
 abbrev pub read : {A : Type 0} → Format A → List ℕ → Read A
 read (format.Ends a) bytes = Ok (a, bytes)
-read (format.Number size test next) bytes = number_at size test bytes >>= λ x. read (next x.0) x.1
-read (format.Text test next) bytes = text_at test bytes >>= λ x. read (next x.0) x.1
+read (format.Number size test next) bytes = and_then (number_at size test bytes) λ x. read (next x.0) x.1
+read (format.Text test next) bytes = and_then (text_at test bytes) λ x. read (next x.0) x.1
