@@ -1,5 +1,6 @@
 pub mod Scanning
 pub mod FieldLemmas
 pub mod FormatLemmas
+pub mod WritingLemmas
 pub mod Reading
 pub mod ListedLemmas

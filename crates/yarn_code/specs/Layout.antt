@@ -41,12 +41,20 @@ text test = Text test Ends
 abbrev pub whole : Format ℤ
 whole = Number U64 any λ n. Ends (cast_signed w64 n)
 
+abbrev pub number_of_truth : Bool → ℕ
+number_of_truth b = if b then 1 else 0
+
 abbrev pub truth : Format Bool
 truth = Number U8 (λ n. nat_le n 1) λ n. Ends (nat_eq n 1)
 
 -- 1 a number, 2 a text, 3 a truth
 abbrev pub kind_of_number : ℕ → K.Kind
 kind_of_number n = if nat_eq n 1 then kind.Number else if nat_eq n 2 then kind.Str else kind.Truth
+
+abbrev pub number_of_kind : K.Kind → ℕ
+number_of_kind kind.Number = 1
+number_of_kind kind.Str = 2
+number_of_kind kind.Truth = 3
 
 abbrev pub kind_field : Format K.Kind
 kind_field = Number U8 (λ n. nat_le 1 n && nat_le n 3) λ n. Ends (kind_of_number n)
@@ -94,11 +102,14 @@ is_host_name t = is_name_of (chars t) && (not (is_reserved t) && not (is_some (b
 abbrev pub function_name : List Signature → List ℕ → Bool
 function_name before t = is_host_name t && is_new (function_names before) t
 
+abbrev pub kinds : List K.Kind → Format K.Kind
+kinds earlier = kind_field
+
 unfoldable pub function : List Signature → Format Signature
 function before = do
   name ← text (function_name before)
   count ← byte is_few
-  params ← times count (λ earlier. kind_field) []
+  params ← times count kinds []
   result ← kind_field
   Ends (record { name = name; params = params; result = result })
 
@@ -128,6 +139,9 @@ coded = do
   instr ← operands_at (slice_get opcodes number)
   Ends (record { line = line; instr = instr })
 
+abbrev pub instructions : List Coded → Format Coded
+instructions earlier = coded
+
 abbrev pub title_field : List CodeNode → List ℕ → Bool
 title_field before t = is_name_of (chars t) && is_new (titles_of before) t
 
@@ -136,7 +150,7 @@ node files before = do
   title ← text (title_field before)
   file ← word (λ n. nat_lt n files)
   count ← word (λ n. nat_le 1 n)
-  code ← times count (λ earlier. coded) []
+  code ← times count instructions []
   Ends (record { title = title; file = file; code = code })
 
 abbrev pub id_field : List BaseLine → List ℕ → Bool
@@ -152,6 +166,9 @@ base_line files nodes before = do
   line ← word any
   Ends (record { id = id; holes = holes; text = template; file = file; node = node; line = line })
 
+abbrev pub file_name : List (List ℕ) → Format (List ℕ)
+file_name earlier = text any
+
 -- ---- the file
 
 -- `YSP1`, one field of four bytes
@@ -161,7 +178,7 @@ is_mark n = bytes_eq (number_bytes U32 n) (codes "YSP1")
 unfoldable pub program_file : Format Program
 program_file = do
   mark ← word is_mark
-  files ← many (λ earlier. text any)
+  files ← many file_name
   variables ← many variable
   functions ← many function
   nodes ← many (node (length files))

@@ -9,6 +9,7 @@ pub mod FormatReading
 pub mod Opcodes
 pub mod Layout
 pub mod Spelling
+pub mod Writing
 pub mod Kinds
 pub mod MachineState
 pub mod Machine
