@@ -2,5 +2,6 @@ pub mod Scanning
 pub mod FieldLemmas
 pub mod FormatLemmas
 pub mod WritingLemmas
+pub mod CodedLemmas
 pub mod Reading
 pub mod ListedLemmas

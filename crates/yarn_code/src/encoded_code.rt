@@ -23,7 +23,7 @@ pub(crate) fn put_instructions(out: &mut List<u8>, code: &List<Coded>) -> Result
 
 fn put_coded(out: &mut List<u8>, one: &Coded) -> Result<(), Memory>
     requires operands { HasOperands one.now.instr }
-    requires words { HasWords one.now.instr }
+    requires words { IsCodedWords one.now }
     ensures { OnOk result (Writes coded one.now out.old out.new) }
 {
     let line = one.line;

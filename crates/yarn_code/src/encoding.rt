@@ -111,10 +111,10 @@ fn put_function(out: &mut List<u8>, one: &Signature) -> Result<(), Memory>
     Ok(())
 }
 
-fn put_kinds(out: &mut List<u8>, kinds: &List<Kind>) -> Result<(), Memory>
-    ensures { OnOk result (Writes (times (length kinds.now) kinds []) kinds.now out.old out.new) }
+fn put_kinds(out: &mut List<u8>, all: &List<Kind>) -> Result<(), Memory>
+    ensures { OnOk result (Writes (times (length all.now) kinds []) all.now out.old out.new) }
 {
-    for kind in kinds.as_slice() {
+    for kind in all.as_slice() {
         put_kind(out, *kind)?;
     }
     Ok(())
