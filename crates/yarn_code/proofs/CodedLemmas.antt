@@ -1,8 +1,8 @@
 -- What is written for an instruction spells it.
 use Rattle.std.proofs.Common.{◌≡◌, ℕ, ℤ, zero, suc, ◌+◌, ◌-◌, ◌^◌, ◌<◌, ◌≤◌, Bool, true, false, List, [], ◌∷◌, ◌++◌, length, slice_get, Result, Ok, Err, OnOk, refl, sym, ap, subst, ◌∙◌, append_assoc, arith, nat_le, nat_eq, pos, negsuc, is_some}
-use Rattle.std.specs.Prelude.{IsTrue}
+use Rattle.std.specs.Prelude.{IsTrue, FitsSigned}
 use Rattle.std.specs.Str.{IsUtf8}
-use Rattle.std.specs.Int.{w64, cast_signed, cast_unsigned, FitsSigned}
+use Rattle.std.specs.Int.{w64, cast_signed, cast_unsigned}
 use Rattle.std.proofs.lemmas.Bool.Decides.{nat_tests}
 use Rattle.std.proofs.lemmas.Int.{to_z-of_z}
 use Rattle.yarn_value.specs.Numbers.{fits}
@@ -123,15 +123,11 @@ pub whole_small : (z : ℤ) → fits z ≡ true → cast_unsigned w64 z < 2 ^ 64
 whole_small (pos n) is = grind (arith, nat_tests)
 whole_small (negsuc n) is = grind (arith, nat_tests)
 
-pub float_written : (one : Coded) (z : ℤ) (a c d : List ℕ) → one.instr ≡ code.PushFloat z → IsCodedWords one → fits z ≡ true → HasHead 7 one.line a c → d ≡ c ++ number_bytes U64 (cast_unsigned w64 z) → Writes coded one a d
+pub float_written : (one : Coded) (z : ℤ) (a c d : List ℕ) → one.instr ≡ code.PushFloat z → IsCodedWords one → fits z ≡ true → HasHead 7 one.line a c → d ≡ c ++ number_bytes U64 (cast_unsigned w64 (cast_signed w64 (cast_unsigned w64 z))) → Writes coded one a d
 float_written one z a c d is words fit head at =
     coded_written one 7 a c d (omega arith) refl words.line head
-    (number_written U64 any (λ n. Ends (code.PushFloat (cast_signed w64 n))) (cast_unsigned w64 z) one.instr c d d (whole_small z fit) refl at
+    (number_written U64 any (λ n. Ends (code.PushFloat (cast_signed w64 n))) (cast_unsigned w64 z) one.instr c d d (whole_small z fit) refl (subst (λ k. d ≡ c ++ number_bytes U64 (cast_unsigned w64 k)) (whole_back z fit) at)
     (subst (λ k. Writes (Ends (code.PushFloat k)) one.instr d d) (sym (whole_back z fit)) (made one (code.PushFloat z) d is)))
 
 pub template_passes : (text : List ℕ) (holes : ℕ) → fields.IsText text holes → is_template holes text ≡ true
-template_passes text holes is = by_test (is_some (template_of text holes)) is.template
-  where
-    by_test : (b : Bool) → IsTrue b → b ≡ true
-    by_test true t = refl
-    by_test false t = elim t [ ]
+template_passes text holes is = is.template

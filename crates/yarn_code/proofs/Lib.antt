@@ -3,5 +3,6 @@ pub mod FieldLemmas
 pub mod FormatLemmas
 pub mod WritingLemmas
 pub mod CodedLemmas
+pub mod EncodingLemmas
 pub mod Reading
 pub mod ListedLemmas

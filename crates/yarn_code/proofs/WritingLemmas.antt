@@ -1,5 +1,5 @@
 -- Writing one field or part after another.
-use Rattle.std.proofs.Common.{◌≡◌, ℕ, zero, suc, ◌+◌, ◌-◌, ◌^◌, ◌<◌, ◌≤◌, Bool, true, false, List, [], ◌∷◌, ◌++◌, length, take, drop, map, slice_get, Option, Some, refl, sym, ap, subst, ◌∙◌, append_assoc, arith}
+use Rattle.std.proofs.Common.{◌≡◌, ℕ, zero, suc, ◌+◌, ◌-◌, ◌^◌, ◌<◌, ◌≤◌, Bool, true, false, List, [], ◌∷◌, ◌++◌, length, take, drop, map, slice_get, get_or, Option, Some, refl, sym, ap, subst, ◌∙◌, append_assoc, arith}
 use Rattle.std.specs.Str.{IsUtf8}
 use Rattle.std.proofs.lemmas.List.{append-nil, length-append}
 use Rattle.yarn_code.specs.Format.{Format, ◌>>=◌, Ends, Number, Text, Size, U32, limit, number_bytes, text_bytes, IsNumber, IsText, IsSpelled, times}
@@ -82,3 +82,21 @@ HasWritten-all part xs i old new le so_far = record {
 pub many_written : {A : Type 0} (part : List A → Format A) (xs : List A) (a b c : List ℕ)
     → length xs < 2 ^ 32 → b ≡ a ++ number_bytes U32 (length xs) → Writes (times (length xs) part []) xs b c → Writes (many part) xs a c
 many_written part xs a b c small e all = number_written U32 any (λ n. times n part []) (length xs) xs a b c small refl e all
+
+get_here : {A : Type 0} (xs : List A) (i : ℕ) (x : A) → i < length xs → x ≡ get_or xs i x → slice_get xs i ≡ Some x
+get_here [] i x lt is = absurd (omega (arith, lt))
+get_here (y ∷ xs) zero x lt is = ap Some (sym is)
+get_here (y ∷ xs) (suc i) x lt is = get_here xs i x (omega (arith, lt)) is
+
+-- the item of a loop, where the items are gone over in another list that is equal
+pub item_here : {A : Type 0} (xs items : List A) (i : ℕ) (x : A) → items ≡ xs → i < length items → x ≡ get_or items i x → slice_get xs i ≡ Some x
+item_here xs items i x same lt is = subst (λ l. slice_get l i ≡ Some x) same (get_here items i x lt is)
+
+pub HasWritten-next : {A : Type 0} (part : List A → Format A) (xs items : List A) (i : ℕ) (x : A) (old mid new : List ℕ)
+    → items ≡ xs → i < length items → x ≡ get_or items i x → HasWritten part xs i old mid → Writes (part (take i xs)) x mid new → HasWritten part xs (i + 1) old new
+HasWritten-next part xs items i x old mid new same lt is so_far one =
+    HasWritten-more part xs i x old mid new (subst (λ l. i < length l) same lt) (item_here xs items i x same lt is) so_far one
+
+pub HasWritten-end : {A : Type 0} (part : List A → Format A) (xs items : List A) (i : ℕ) (old new : List ℕ)
+    → items ≡ xs → length items ≤ i → HasWritten part xs i old new → Writes (times (length xs) part []) xs old new
+HasWritten-end part xs items i old new same le so_far = HasWritten-all part xs i old new (subst (λ l. length l ≤ i) same le) so_far
