@@ -59,7 +59,7 @@ other_bytes a b differ = by_test (bytes_eq a b) refl
     by_test true e = absurd (differ (same_bytes a b e))
     by_test false e = refl
 
-item_of : {A : Type 0} (P : A → Type 0) (xs : List A) (i : ℕ) (x : A) → slice_get xs i ≡ Some x → All P xs → P x
+pub item_of : {A : Type 0} (P : A → Type 0) (xs : List A) (i : ℕ) (x : A) → slice_get xs i ≡ Some x → All P xs → P x
 item_of P [] i x at all = absurd cc
 item_of P (y ∷ xs) zero x at all = let e : y ≡ x = cc in subst P e (all 0 y (omega arith))
 item_of P (y ∷ xs) (suc i) x at all = item_of P xs i x at (λ k d lt. all (suc k) d (omega (arith, lt)))
@@ -178,3 +178,6 @@ line_written p l before a b c d e f g short short_text file node line field new 
     (number_written U32 (λ m. nat_lt m (length p.files)) _ l.file l d e g file (below_passes l.file (length p.files) field.filed) at_file
     (number_written U32 (λ m. nat_lt m (length p.nodes)) _ l.node l e f g node (below_passes l.node (length p.nodes) field.within) at_node
     (number_written U32 any _ l.line l f g g line refl at_line (Writes-end l g))))))
+
+pub file_written : (name : List ℕ) (a b : List ℕ) → length name < 2 ^ 32 → IsUtf8 name → b ≡ a ++ text_bytes name → Writes (text any) name a b
+file_written name a b short utf8 e = text_written any Ends name name a b b short utf8 refl e (Writes-end name b)
