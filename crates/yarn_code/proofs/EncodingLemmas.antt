@@ -20,8 +20,9 @@ use Rattle.yarn_code.specs.declared.program.CodeNode.{CodeNode}
 use Rattle.yarn_code.specs.declared.program.Variable.{Variable}
 use Rattle.yarn_code.specs.declared.program.Program.{Program}
 use Rattle.yarn_code.specs.Fields.{IsNew, AreUnique, IsVariableField, IsFunctionField, IsNodeField, IsLineField, names_of, function_names, titles_of, ids_of}
-use Rattle.yarn_code.specs.Format.{Format, ◌>>=◌, Ends, Number, Text, U8, U32, U64, number_bytes, text_bytes, times}
-use Rattle.yarn_code.specs.Layout.{any, byte, word, text, truth, whole, kind_field, number_of_kind, kind_of_number, number_of_truth, kinds, is_few, is_short, is_template, is_new, many, value_of, variable_name, variable, is_host_name, function_name, function, instructions, title_field, node, id_field, base_line}
+use Rattle.yarn_code.specs.Spelling.{Spells}
+use Rattle.yarn_code.specs.Format.{Format, IsSpelled, ◌>>=◌, Ends, Number, Text, U8, U32, U64, number_bytes, text_bytes, times}
+use Rattle.yarn_code.specs.Layout.{any, byte, word, text, truth, whole, kind_field, number_of_kind, kind_of_number, number_of_truth, kinds, file_name, is_mark, program_file, is_few, is_short, is_template, is_new, many, value_of, variable_name, variable, is_host_name, function_name, function, instructions, title_field, node, id_field, base_line}
 use Rattle.yarn_code.specs.Writing.{Writes}
 use Rattle.yarn_code.proofs.WritingLemmas.{Writes-end, Writes-then, number_written, text_written}
 use Rattle.yarn_code.proofs.CodedLemmas.{few_passes, few_byte, short_passes, short_word, truth_byte, truth_passes, truth_back, whole_back, whole_small, template_passes}
@@ -181,3 +182,20 @@ line_written p l before a b c d e f g short short_text file node line field new 
 
 pub file_written : (name : List ℕ) (a b : List ℕ) → length name < 2 ^ 32 → IsUtf8 name → b ≡ a ++ text_bytes name → Writes (text any) name a b
 file_written name a b short utf8 e = text_written any Ends name name a b b short utf8 refl e (Writes-end name b)
+
+-- the mark as a number
+abbrev mark : ℕ
+mark = 1498632241
+
+pub program_written : (p : Program) (a b c d e f : List ℕ) → a ≡ number_bytes U32 mark → Writes (many file_name) p.files a b → Writes (many variable) p.variables b c → Writes (many function) p.functions c d
+    → Writes (many (node (length p.files))) p.nodes d e → Writes (many (base_line (length p.files) (length p.nodes))) p.lines e f → Spells f p
+unfolding program_file
+program_written p a b c d e f at files variables functions nodes lines =
+    let all : Writes program_file p [] f =
+        number_written U32 is_mark _ mark p [] a f (omega arith) refl at
+        (Writes-then (many file_name) _ p.files p a b f files
+        (Writes-then (many variable) _ p.variables p b c f variables
+        (Writes-then (many function) _ p.functions p c d f functions
+        (Writes-then (many (node (length p.files))) _ p.nodes p d e f nodes
+        (Writes-then (many (base_line (length p.files) (length p.nodes))) _ p.lines p e f f lines (Writes-end p f)))))) in
+    subst (λ l. IsSpelled program_file l p) (sym all.split) all.spelled

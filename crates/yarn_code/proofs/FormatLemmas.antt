@@ -217,3 +217,18 @@ spelled-then (Number size test next) g a b x y (n, rest, is, at, p) q =
     (n, rest ++ b, is, ap (λ (l : List ℕ). l ++ b) at ∙ append_assoc (number_bytes size n) rest b, spelled-then (next n) g rest b x y p q)
 spelled-then (Text test next) g a b x y (t, rest, is, at, p) q =
     (t, rest ++ b, is, ap (λ (l : List ℕ). l ++ b) at ∙ append_assoc (text_bytes t) rest b, spelled-then (next t) g rest b x y p q)
+
+-- each list of bytes spells a value or is refused
+pub spelled_or_bad : {A : Type 0} (f : Format A) (bytes : List ℕ) → IsBytes bytes → ((x : A) × IsSpelled f bytes x) ⊎ ((at : ℕ) × IsBadAt f bytes at)
+spelled_or_bad {A = A} f bytes fits = by_read (read f bytes) refl
+  where
+    refused : (left : ℕ) → Stops f bytes left → (at : ℕ) × IsBadAt f bytes at
+    refused left stops = let r = stop_refuses f bytes left fits stops in (r.at, r.bad)
+
+    by_rest : (x : A) (rest : List ℕ) → read f bytes ≡ Ok (x, rest) → ((y : A) × IsSpelled f bytes y) ⊎ ((at : ℕ) × IsBadAt f bytes at)
+    by_rest x [] e = inl (x, read_spells f bytes x fits e)
+    by_rest x (b ∷ rest) e = inr (refused (length (b ∷ rest)) (Follows x (b ∷ rest) (λ none. absurd cc) refl e))
+
+    by_read : (r : Read A) → read f bytes ≡ r → ((y : A) × IsSpelled f bytes y) ⊎ ((at : ℕ) × IsBadAt f bytes at)
+    by_read (Ok x) e = by_rest x.0 x.1 e
+    by_read (Err left) e = inr (refused left (Refused e))

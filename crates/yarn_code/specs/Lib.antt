@@ -10,6 +10,7 @@ pub mod Opcodes
 pub mod Layout
 pub mod Spelling
 pub mod Writing
+pub mod SpellingLaws
 pub mod Kinds
 pub mod MachineState
 pub mod Machine

@@ -69,7 +69,7 @@ fn put_variable(out: &mut List<u8>, one: &Variable) -> Result<(), Memory>
     ensures { OnOk result ((before : List Variable) → is_new (names_of before) one.now.name ≡ true → Writes (variable before) one.now out.old out.new) }
 {
     put_text(out, &one.name)?;
-    put_kind(out, one.initial.kind())?;
+    put_kind(out, &one.initial.kind())?;
     put_value(out, &one.initial)?;
     Ok(())
 }
@@ -107,7 +107,7 @@ fn put_function(out: &mut List<u8>, one: &Signature) -> Result<(), Memory>
     put_text(out, &one.name)?;
     put_u8(out, one.params.len() as u8)?;
     put_kinds(out, &one.params)?;
-    put_kind(out, one.result)?;
+    put_kind(out, &one.result)?;
     Ok(())
 }
 
@@ -115,7 +115,7 @@ fn put_kinds(out: &mut List<u8>, all: &List<Kind>) -> Result<(), Memory>
     ensures { OnOk result (Writes (times (length all.now) kinds []) all.now out.old out.new) }
 {
     for kind in all.as_slice() {
-        put_kind(out, *kind)?;
+        put_kind(out, kind)?;
     }
     Ok(())
 }

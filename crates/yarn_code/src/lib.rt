@@ -17,5 +17,5 @@ mod writer;
 pub use answer::take_answer;
 pub use encoding::encode;
 pub use event::{Choice, Event};
-pub use laws::instructions_do_as_listed;
+pub use laws::{instructions_do_as_listed, programs_have_one_spelling};
 pub use program::{CodeNode, Coded, Instr, Program, Variable};

@@ -31,8 +31,8 @@ pub(crate) fn put_truth(out: &mut List<u8>, truth: bool) -> Result<(), Memory>
     put_u8(out, if truth { 1 } else { 0 })
 }
 
-pub(crate) fn put_kind(out: &mut List<u8>, kind: Kind) -> Result<(), Memory>
-    ensures { OnOk result (out.new ≡ out.old ++ number_bytes U8 (number_of_kind kind)) }
+pub(crate) fn put_kind(out: &mut List<u8>, kind: &Kind) -> Result<(), Memory>
+    ensures { OnOk result (out.new ≡ out.old ++ number_bytes U8 (number_of_kind kind.now)) }
 {
     let number = match kind {
         Kind::Number => 1,

@@ -1,3 +1,5 @@
+use Rattle.std.proofs.Common.{◌≡◌, ◌++◌, subst}
+use Rattle.yarn_code.specs.Format.{U32, number_bytes}
 use Rattle.std.proofs.Common.{take, refl, length, ◌<◌}
 use Rattle.yarn_code.specs.Layout.{file_name}
 use Rattle.yarn_code.proofs.WritingLemmas.{HasWritten-none, HasWritten-next, HasWritten-end, item_here, many_written}
@@ -12,5 +14,6 @@ loop-file-preserved c =
 
 pub returns : goal.returns
 returns c =
-    many_written file_name c.args.files.now c.args.out.now c.put_count.new.out c.loop-file.out c.requires.count c.in_ok-put_count.ensures
+    many_written file_name c.args.files.now c.args.out.now c.put_count.new.out c.loop-file.out c.requires.count
+    (subst (λ k. c.put_count.new.out ≡ c.args.out.now ++ number_bytes U32 k) c.len.ensures c.in_ok-put_count.ensures)
     (HasWritten-end file_name c.args.files.now c.as_slice-file-items.result.now c.loop-file.file-index c.put_count.new.out c.loop-file.out c.as_slice-file-items.ensures c.loop-file-test.false c.loop-file.invariant)

@@ -1,3 +1,5 @@
+use Rattle.std.proofs.Common.{◌≡◌, ◌++◌, subst}
+use Rattle.yarn_code.specs.Format.{U32, number_bytes}
 use Rattle.std.proofs.Common.{take, refl, length, ◌<◌}
 use Rattle.yarn_code.specs.Layout.{function}
 use Rattle.yarn_code.proofs.WritingLemmas.{HasWritten-none, HasWritten-next, HasWritten-end, item_here, many_written}
@@ -12,5 +14,6 @@ loop-function-preserved c =
 
 pub returns : goal.returns
 returns c =
-    many_written function c.args.functions.now c.args.out.now c.put_count.new.out c.loop-function.out c.requires.count c.in_ok-put_count.ensures
+    many_written function c.args.functions.now c.args.out.now c.put_count.new.out c.loop-function.out c.requires.count
+    (subst (λ k. c.put_count.new.out ≡ c.args.out.now ++ number_bytes U32 k) c.len.ensures c.in_ok-put_count.ensures)
     (HasWritten-end function c.args.functions.now c.as_slice-function-items.result.now c.loop-function.function-index c.put_count.new.out c.loop-function.out c.as_slice-function-items.ensures c.loop-function-test.false c.loop-function.invariant)

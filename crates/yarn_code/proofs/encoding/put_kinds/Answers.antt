@@ -1,5 +1,5 @@
 use Rattle.yarn_code.specs.Layout.{kinds}
-use Rattle.yarn_code.proofs.WritingLemmas.{HasWritten-none, HasWritten-next, HasWritten-end, item_here, many_written}
+use Rattle.yarn_code.proofs.WritingLemmas.{HasWritten-next, HasWritten-end}
 use Rattle.yarn_code.proofs.EncodingLemmas.{kind_written}
 use Rattle.yarn_code.proofs.encoding.put_kinds.Goals as goal
 

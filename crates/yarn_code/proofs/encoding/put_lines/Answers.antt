@@ -1,3 +1,5 @@
+use Rattle.std.proofs.Common.{◌≡◌, ◌++◌, subst}
+use Rattle.yarn_code.specs.Format.{U32, number_bytes}
 use Rattle.std.proofs.Common.{take, length}
 use Rattle.yarn_code.specs.Fields.{IsLineField}
 use Rattle.yarn_code.specs.Layout.{base_line}
@@ -18,5 +20,6 @@ loop-line-preserved c p fields =
 
 pub returns : goal.returns
 returns c p fields =
-    many_written (base_line (length p.files) (length p.nodes)) c.args.lines.now c.args.out.now c.put_count.new.out c.loop-line.out c.requires.count c.in_ok-put_count.ensures
+    many_written (base_line (length p.files) (length p.nodes)) c.args.lines.now c.args.out.now c.put_count.new.out c.loop-line.out c.requires.count
+    (subst (λ k. c.put_count.new.out ≡ c.args.out.now ++ number_bytes U32 k) c.len.ensures c.in_ok-put_count.ensures)
     (HasWritten-end (base_line (length p.files) (length p.nodes)) c.args.lines.now c.as_slice-line-items.result.now c.loop-line.line-index c.put_count.new.out c.loop-line.out c.as_slice-line-items.ensures c.loop-line-test.false (c.loop-line.invariant p fields))

@@ -1,3 +1,5 @@
+use Rattle.std.proofs.Common.{◌≡◌, ◌++◌, subst}
+use Rattle.yarn_code.specs.Format.{U32, number_bytes}
 use Rattle.std.proofs.Common.{take, length}
 use Rattle.yarn_code.specs.Fields.{IsNodeField}
 use Rattle.yarn_code.specs.Layout.{node}
@@ -18,5 +20,6 @@ loop-node-preserved c p fields =
 
 pub returns : goal.returns
 returns c p fields =
-    many_written (node (length p.files)) c.args.nodes.now c.args.out.now c.put_count.new.out c.loop-node.out c.requires.count c.in_ok-put_count.ensures
+    many_written (node (length p.files)) c.args.nodes.now c.args.out.now c.put_count.new.out c.loop-node.out c.requires.count
+    (subst (λ k. c.put_count.new.out ≡ c.args.out.now ++ number_bytes U32 k) c.len.ensures c.in_ok-put_count.ensures)
     (HasWritten-end (node (length p.files)) c.args.nodes.now c.as_slice-node-items.result.now c.loop-node.node-index c.put_count.new.out c.loop-node.out c.as_slice-node-items.ensures c.loop-node-test.false (c.loop-node.invariant p fields))
