@@ -23,8 +23,8 @@ use Rattle.yarn_code.specs.Fields.{IsNew, AreUnique, IsVariableField, IsFunction
 use Rattle.yarn_code.specs.Spelling.{Spells}
 use Rattle.yarn_code.specs.Format.{Format, IsSpelled, ◌>>=◌, Ends, Number, Text, U8, U32, U64, number_bytes, text_bytes, times}
 use Rattle.yarn_code.specs.Layout.{any, byte, word, text, truth, whole, kind_field, number_of_kind, kind_of_number, number_of_truth, kinds, file_name, is_mark, program_file, is_few, is_short, is_template, is_new, many, value_of, variable_name, variable, is_host_name, function_name, function, instructions, title_field, node, id_field, base_line}
-use Rattle.yarn_code.specs.Writing.{Writes}
-use Rattle.yarn_code.proofs.WritingLemmas.{Writes-end, Writes-then, number_written, text_written}
+use Rattle.yarn_code.specs.Writing.{Writes, HasWritten}
+use Rattle.yarn_code.proofs.WritingLemmas.{HasWritten-next, Writes-end, Writes-then, number_written, text_written}
 use Rattle.yarn_code.proofs.CodedLemmas.{few_passes, few_byte, short_passes, short_word, truth_byte, truth_passes, truth_back, whole_back, whole_small, template_passes}
 
 -- ---- tests
@@ -199,3 +199,13 @@ program_written p a b c d e f at files variables functions nodes lines =
         (Writes-then (many (node (length p.files))) _ p.nodes p d e f nodes
         (Writes-then (many (base_line (length p.files) (length p.nodes))) _ p.lines p e f f lines (Writes-end p f)))))) in
     subst (λ l. IsSpelled program_file l p) (sym all.split) all.spelled
+
+any_default : {A : Type 0} (xs : List A) (i : ℕ) (d e : A) → i < length xs → get_or xs i d ≡ get_or xs i e
+any_default [] i d e lt = absurd (omega (arith, lt))
+any_default (x ∷ xs) zero d e lt = refl
+any_default (x ∷ xs) (suc i) d e lt = any_default xs i d e (omega (arith, lt))
+
+pub kinds_next : (xs items : List Kind) (i : ℕ) (d : Kind) (old mid new : List ℕ) → items ≡ xs → i < length items → HasWritten kinds xs i old mid
+    → new ≡ mid ++ number_bytes U8 (number_of_kind (get_or items i d)) → HasWritten kinds xs (i + 1) old new
+kinds_next xs items i d old mid new same lt so_far e =
+    HasWritten-next kinds xs items i (get_or items i d) old mid new same lt (any_default items i d (get_or items i d) lt) so_far (kind_written (get_or items i d) mid new e)
