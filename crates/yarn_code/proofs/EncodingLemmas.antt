@@ -146,8 +146,8 @@ unfolding function
 function_written s before a b c d e short field new at utf8 at_count params result =
     text_written (function_name before) _ s.name s a b e short utf8
     (both (is_host_name s.name) (is_new (function_names before) s.name)
-        (both (is_name_of (chars s.name)) (not (is_reserved s.name) && not (is_some (builtin_named s.name))) field.named
-        (both (not (is_reserved s.name)) (not (is_some (builtin_named s.name))) (not_passes (is_reserved s.name) field.free) (none_found s.name field.host))) new) at
+    (both (is_name_of (chars s.name)) (not (is_reserved s.name) && not (is_some (builtin_named s.name))) field.named
+    (both (not (is_reserved s.name)) (not (is_some (builtin_named s.name))) (not_passes (is_reserved s.name) field.free) (none_found s.name field.host))) new) at
     (number_written U8 is_few _ (length s.params) s b c e (few_byte (length s.params) field.few) (few_passes (length s.params) field.few) at_count
     (Writes-then (times (length s.params) kinds []) (λ ps. kind_field >>= λ r. Ends (record { name = s.name; params = ps; result = r })) s.params s c d e params
     (Writes-then kind_field (λ r. Ends (record { name = s.name; params = s.params; result = r })) s.result s d e e result (Writes-end s e))))
@@ -192,12 +192,12 @@ pub program_written : (p : Program) (a b c d e f : List ℕ) → a ≡ number_by
 unfolding program_file
 program_written p a b c d e f at files variables functions nodes lines =
     let all : Writes program_file p [] f =
-        number_written U32 is_mark _ mark p [] a f (omega arith) refl at
-        (Writes-then (many file_name) _ p.files p a b f files
-        (Writes-then (many variable) _ p.variables p b c f variables
-        (Writes-then (many function) _ p.functions p c d f functions
-        (Writes-then (many (node (length p.files))) _ p.nodes p d e f nodes
-        (Writes-then (many (base_line (length p.files) (length p.nodes))) _ p.lines p e f f lines (Writes-end p f)))))) in
+    number_written U32 is_mark _ mark p [] a f (omega arith) refl at
+    (Writes-then (many file_name) _ p.files p a b f files
+    (Writes-then (many variable) _ p.variables p b c f variables
+    (Writes-then (many function) _ p.functions p c d f functions
+    (Writes-then (many (node (length p.files))) _ p.nodes p d e f nodes
+    (Writes-then (many (base_line (length p.files) (length p.nodes))) _ p.lines p e f f lines (Writes-end p f)))))) in
     subst (λ l. IsSpelled program_file l p) (sym all.split) all.spelled
 
 any_default : {A : Type 0} (xs : List A) (i : ℕ) (d e : A) → i < length xs → get_or xs i d ≡ get_or xs i e

@@ -130,11 +130,13 @@ text_takes test bytes text rest fits e =
     let utf8 = IsUtf8-from_is_utf8 (take n.0 n.1) (not_false _ tests.1) in
     let len : length (take n.0 n.1) ≡ n.0 = omega (arith, length-take n.0 n.1) in
     let parts : bytes ≡ text_bytes (take n.0 n.1) ++ drop n.0 n.1 =
-        rw len (t.0.parts ∙ ap (λ (x : List ℕ). number_bytes U32 n.0 ++ x) (sym (take-append-drop n.0 n.1)) ∙ sym (append_assoc (number_bytes U32 n.0) (take n.0 n.1) (drop n.0 n.1))) in
+    rw len (t.0.parts ∙ ap (λ (x : List ℕ). number_bytes U32 n.0 ++ x) (sym (take-append-drop n.0 n.1)) ∙ sym (append_assoc (number_bytes U32 n.0) (take n.0 n.1) (drop n.0 n.1))) in
     let made : Takes bytes (text_bytes (take n.0 n.1)) (drop n.0 n.1) = record { parts = parts; rest_fits = IsBytes-drop n.0 n.1 t.0.rest_fits } in
     let whole : (x : List ℕ × List ℕ) → (take n.0 n.1, drop n.0 n.1) ≡ x → test x.0 ≡ true → Takes bytes (text_bytes x.0) x.1 × IsText test x.0 =
-        λ x is passes. (subst (λ (y : List ℕ × List ℕ). Takes bytes (text_bytes y.0) y.1) is made,
-            subst (λ (y : List ℕ × List ℕ). test y.0 ≡ true → IsText test y.0) is (λ h. record { short = omega (arith, len, t.1); utf8 = utf8; passes = h }) passes) in
+    λ x is passes. (
+      subst (λ (y : List ℕ × List ℕ). Takes bytes (text_bytes y.0) y.1) is made,
+      subst (λ (y : List ℕ × List ℕ). test y.0 ≡ true → IsText test y.0) is (λ h. record { short = omega (arith, len, t.1); utf8 = utf8; passes = h }) passes,
+    ) in
     subst (λ (x : List ℕ × List ℕ). Takes bytes (text_bytes x.0) x.1 × IsText test x.0) p.1 (whole a.0 g.1 p.0)
 
 pub text_again : (test : List ℕ → Bool) (text rest : List ℕ) → IsText test text → text_at test (text_bytes text ++ rest) ≡ Ok (text, rest)

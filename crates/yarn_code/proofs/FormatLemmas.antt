@@ -157,13 +157,13 @@ stop_refuses (Number size test next) bytes left fits (Refused e) =
     elim (bind_err (number_at size test bytes) (λ y. read (next y.0) y.1) left e) [
       | inl first ↦ record { at = 0; place = omega (arith, number_left size test bytes left first); bad = inl (refl, no_number size test bytes left first) }
       | inr second ↦
-        let t = number_takes size test bytes second.0.0 second.0.1 fits second.1 in
-        let later = stop_refuses (next second.0.0) second.0.1 left t.0.rest_fits (Refused second.2) in
-        record {
-          at = length (number_bytes size second.0.0) + later.at;
-          place = omega (arith, later.place, ap length t.0.parts, length-append (number_bytes size second.0.0) second.0.1);
-          bad = inr (second.0.0, second.0.1, t.1, t.0.parts, later.at, refl, later.bad);
-        }
+          let t = number_takes size test bytes second.0.0 second.0.1 fits second.1 in
+          let later = stop_refuses (next second.0.0) second.0.1 left t.0.rest_fits (Refused second.2) in
+          record {
+            at = length (number_bytes size second.0.0) + later.at;
+            place = omega (arith, later.place, ap length t.0.parts, length-append (number_bytes size second.0.0) second.0.1);
+            bad = inr (second.0.0, second.0.1, t.1, t.0.parts, later.at, refl, later.bad);
+          }
     ]
 stop_refuses (Number size test next) bytes left fits (Follows x rest some l e) =
     let b = bind_ok (number_at size test bytes) (λ y. read (next y.0) y.1) (x, rest) e in
@@ -178,13 +178,13 @@ stop_refuses (Text test next) bytes left fits (Refused e) =
     elim (bind_err (text_at test bytes) (λ y. read (next y.0) y.1) left e) [
       | inl first ↦ record { at = 0; place = omega (arith, text_left test bytes left first); bad = inl (refl, no_text test bytes left first) }
       | inr second ↦
-        let t = text_takes test bytes second.0.0 second.0.1 fits second.1 in
-        let later = stop_refuses (next second.0.0) second.0.1 left t.0.rest_fits (Refused second.2) in
-        record {
-          at = length (text_bytes second.0.0) + later.at;
-          place = omega (arith, later.place, ap length t.0.parts, length-append (text_bytes second.0.0) second.0.1);
-          bad = inr (second.0.0, second.0.1, t.1, t.0.parts, later.at, refl, later.bad);
-        }
+          let t = text_takes test bytes second.0.0 second.0.1 fits second.1 in
+          let later = stop_refuses (next second.0.0) second.0.1 left t.0.rest_fits (Refused second.2) in
+          record {
+            at = length (text_bytes second.0.0) + later.at;
+            place = omega (arith, later.place, ap length t.0.parts, length-append (text_bytes second.0.0) second.0.1);
+            bad = inr (second.0.0, second.0.1, t.1, t.0.parts, later.at, refl, later.bad);
+          }
     ]
 stop_refuses (Text test next) bytes left fits (Follows x rest some l e) =
     let b = bind_ok (text_at test bytes) (λ y. read (next y.0) y.1) (x, rest) e in

@@ -53,12 +53,12 @@ HasWritten-more part xs i x old mid new lt at so_far one = record {
   front = so_far.front ++ one.bytes;
   split = one.split ∙ ap (λ (l : List ℕ). l ++ one.bytes) so_far.split ∙ append_assoc old so_far.front one.bytes;
   goes_on = λ more h.
-    let k : length xs - i ≡ suc (length xs - (i + 1)) = omega (arith, lt) in
-    let later : IsSpelled (times (length xs - (i + 1)) part (take i xs ++ x ∷ [])) more xs = subst (λ l. IsSpelled (times (length xs - (i + 1)) part l) more xs) (take_more xs i x at) h in
-    let both : IsSpelled (times (suc (length xs - (i + 1))) part (take i xs)) (one.bytes ++ more) xs =
-        spelled-then (part (take i xs)) (λ y. times (length xs - (i + 1)) part (take i xs ++ y ∷ [])) one.bytes more x xs one.spelled later in
-    subst (λ l. IsSpelled (times (length xs) part []) l xs) (sym (append_assoc so_far.front one.bytes more))
-        (so_far.goes_on (one.bytes ++ more) (subst (λ j. IsSpelled (times j part (take i xs)) (one.bytes ++ more) xs) (sym k) both));
+      let k : length xs - i ≡ suc (length xs - (i + 1)) = omega (arith, lt) in
+      let later : IsSpelled (times (length xs - (i + 1)) part (take i xs ++ x ∷ [])) more xs = subst (λ l. IsSpelled (times (length xs - (i + 1)) part l) more xs) (take_more xs i x at) h in
+      let both : IsSpelled (times (suc (length xs - (i + 1))) part (take i xs)) (one.bytes ++ more) xs =
+      spelled-then (part (take i xs)) (λ y. times (length xs - (i + 1)) part (take i xs ++ y ∷ [])) one.bytes more x xs one.spelled later in
+      subst (λ l. IsSpelled (times (length xs) part []) l xs) (sym (append_assoc so_far.front one.bytes more))
+      (so_far.goes_on (one.bytes ++ more) (subst (λ j. IsSpelled (times j part (take i xs)) (one.bytes ++ more) xs) (sym k) both));
 }
 
 take_all : {A : Type 0} (xs : List A) (n : ℕ) → length xs ≤ n → take n xs ≡ xs
@@ -73,9 +73,9 @@ HasWritten-all part xs i old new le so_far = record {
   bytes = so_far.front;
   split = so_far.split;
   spelled =
-    let k : length xs - i ≡ 0 = omega (arith, le) in
-    subst (λ l. IsSpelled (times (length xs) part []) l xs) (append-nil so_far.front)
-        (so_far.goes_on [] (subst (λ j. IsSpelled (times j part (take i xs)) [] xs) (sym k) (refl, sym (take_all xs i le))));
+      let k : length xs - i ≡ 0 = omega (arith, le) in
+      subst (λ l. IsSpelled (times (length xs) part []) l xs) (append-nil so_far.front)
+      (so_far.goes_on [] (subst (λ j. IsSpelled (times j part (take i xs)) [] xs) (sym k) (refl, sym (take_all xs i le))));
 }
 
 -- the count, and then the parts

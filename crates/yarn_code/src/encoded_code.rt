@@ -5,9 +5,8 @@ ghost use Rattle.yarn_code.specs.Format.{times};
 ghost use Rattle.yarn_code.specs.Layout.{coded, instructions};
 ghost use Rattle.yarn_code.specs.Writing.{Writes, HasHead, HasLabel, HasText, HasCounted};
 
-use crate::opcode;
 use crate::writer::{put_i64, put_text, put_truth, put_u8, put_u32};
-use crate::{Coded, Instr};
+use crate::{Coded, Instr, opcode};
 use yarn_base::{List, Memory, Text};
 
 pub(crate) fn put_instructions(out: &mut List<u8>, code: &List<Coded>) -> Result<(), Memory>

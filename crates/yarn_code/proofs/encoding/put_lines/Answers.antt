@@ -16,7 +16,7 @@ loop-line-preserved c p fields =
     HasWritten-next (base_line (length p.files) (length p.nodes)) c.args.lines.now c.as_slice-line-items.result.now c.loop-line.line-index c.line-item.result c.put_count.new.out c.loop-line.out c.put_line.new.out
     c.as_slice-line-items.ensures c.loop-line-test.true c.line-item.is (c.loop-line.invariant p fields)
     (c.in_ok-put_line.ensures p (take c.loop-line.line-index c.args.lines.now) (item_of (IsLineField p) c.args.lines.now c.loop-line.line-index c.line-item.result here fields)
-        (id_new c.args.lines.now c.loop-line.line-index c.line-item.result c.requires.differ here))
+    (id_new c.args.lines.now c.loop-line.line-index c.line-item.result c.requires.differ here))
 
 pub returns : goal.returns
 returns c p fields =

@@ -16,7 +16,7 @@ loop-node-preserved c p fields =
     HasWritten-next (node (length p.files)) c.args.nodes.now c.as_slice-node-items.result.now c.loop-node.node-index c.node-item.result c.put_count.new.out c.loop-node.out c.put_node.new.out
     c.as_slice-node-items.ensures c.loop-node-test.true c.node-item.is (c.loop-node.invariant p fields)
     (c.in_ok-put_node.ensures p (take c.loop-node.node-index c.args.nodes.now) (item_of (IsNodeField p) c.args.nodes.now c.loop-node.node-index c.node-item.result here fields)
-        (title_new c.args.nodes.now c.loop-node.node-index c.node-item.result c.requires.differ here))
+    (title_new c.args.nodes.now c.loop-node.node-index c.node-item.result c.requires.differ here))
 
 pub returns : goal.returns
 returns c p fields =
