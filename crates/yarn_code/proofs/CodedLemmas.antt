@@ -1,18 +1,16 @@
 -- What is written for an instruction spells it.
-use Rattle.std.proofs.Common.{◌≡◌, ℕ, ℤ, zero, suc, ◌+◌, ◌-◌, ◌^◌, ◌<◌, ◌≤◌, Bool, true, false, List, [], ◌∷◌, ◌++◌, length, slice_get, Result, Ok, Err, OnOk, refl, sym, ap, subst, ◌∙◌, append_assoc, arith, nat_le, nat_eq, pos, negsuc, is_some}
-use Rattle.std.specs.Prelude.{IsTrue, FitsSigned}
-use Rattle.std.specs.Str.{IsUtf8}
+use Rattle.std.proofs.Common.{◌≡◌, ℕ, ℤ, ◌^◌, ◌<◌, ◌≤◌, Bool, true, false, List, ◌++◌, length, slice_get, Result, Ok, Err, OnOk, refl, sym, subst, arith, nat_le, nat_eq, pos, negsuc}
+use Rattle.std.specs.Prelude.{FitsSigned}
 use Rattle.std.specs.Int.{w64, cast_signed, cast_unsigned}
 use Rattle.std.proofs.lemmas.Bool.Decides.{nat_tests}
 use Rattle.std.proofs.lemmas.Int.{to_z-of_z}
 use Rattle.yarn_value.specs.Numbers.{fits}
-use Rattle.yarn_value.specs.Templates.{template_of}
 use Rattle.yarn_code.specs.declared.program.Instr.{Instr}
 use Rattle.yarn_code.specs.declared.program.Instr.TheVariants as code
 use Rattle.yarn_code.specs.declared.program.Coded.{Coded}
 use Rattle.yarn_code.specs.Fields.{HasOperands, IsWord, IsCodedWords}
 use Rattle.yarn_code.specs.Fields as fields
-use Rattle.yarn_code.specs.Format.{Format, Ends, Number, Text, U8, U32, U64, number_bytes, text_bytes}
+use Rattle.yarn_code.specs.Format.{Format, Ends, Number, Text, U8, U32, U64, number_bytes}
 use Rattle.yarn_code.specs.Layout.{any, is_few, is_short, is_template, number_of_truth, operands_at, is_opcode, coded}
 use Rattle.yarn_code.specs.Opcodes.{opcodes}
 use Rattle.yarn_code.specs.Writing.{Writes, HasHead, HasLabel, HasText, HasCounted}

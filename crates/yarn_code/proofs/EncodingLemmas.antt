@@ -1,16 +1,13 @@
 -- What is written for the parts of a program spells them, by the rules of fields.
-use Rattle.std.proofs.Common.{◌≡◌, ℕ, ℤ, zero, suc, ◌+◌, ◌-◌, ◌^◌, ◌<◌, ◌≤◌, Bool, true, false, List, [], ◌∷◌, ◌++◌, length, take, map, slice_get, get_or, All, Option, Some, None, is_some, refl, sym, ap, subst, ◌∙◌, append_assoc, arith, nat_le, nat_lt, nat_eq, not, ◌&&◌}
+use Rattle.std.proofs.Common.{◌≡◌, ℕ, ℤ, zero, suc, ◌+◌, ◌^◌, ◌<◌, ◌≤◌, Bool, true, false, List, [], ◌∷◌, ◌++◌, length, take, map, slice_get, get_or, All, Some, None, is_some, refl, sym, ap, subst, ◌∙◌, arith, nat_le, nat_lt, nat_eq, not, ◌&&◌}
 use Rattle.std.specs.Str.{IsUtf8, bytes_eq, chars}
-use Rattle.std.specs.List.{list_all}
 use Rattle.std.specs.Int.{w64, cast_signed, cast_unsigned}
 use Rattle.std.proofs.lemmas.Bool.Decides.{nat_tests}
-use Rattle.std.proofs.lemmas.List.Elements.{All-get_or}
 use Rattle.yarn_base.specs.Name.{is_name_of, is_variable_of}
 use Rattle.yarn_value.specs.declared.base.BaseLine.{BaseLine}
 use Rattle.yarn_value.specs.declared.signature.Signature.{Signature}
 use Rattle.yarn_value.specs.declared.value.Kind.{Kind}
 use Rattle.yarn_value.specs.declared.value.Kind.TheVariants as kind
-use Rattle.yarn_value.specs.declared.value.Value.{Value}
 use Rattle.yarn_value.specs.declared.value.Value.TheVariants as value
 use Rattle.yarn_value.specs.Builtins.{builtin_named}
 use Rattle.yarn_value.specs.Numbers.{fits}
@@ -19,10 +16,10 @@ use Rattle.yarn_expr.specs.Word.{is_reserved}
 use Rattle.yarn_code.specs.declared.program.CodeNode.{CodeNode}
 use Rattle.yarn_code.specs.declared.program.Variable.{Variable}
 use Rattle.yarn_code.specs.declared.program.Program.{Program}
-use Rattle.yarn_code.specs.Fields.{IsNew, AreUnique, IsVariableField, IsFunctionField, IsNodeField, IsLineField, names_of, function_names, titles_of, ids_of}
+use Rattle.yarn_code.specs.Fields.{AreUnique, IsVariableField, IsFunctionField, IsNodeField, IsLineField, names_of, function_names, titles_of, ids_of}
 use Rattle.yarn_code.specs.Spelling.{Spells}
-use Rattle.yarn_code.specs.Format.{Format, IsSpelled, ◌>>=◌, Ends, Number, Text, U8, U32, U64, number_bytes, text_bytes, times}
-use Rattle.yarn_code.specs.Layout.{any, byte, word, text, truth, whole, kind_field, number_of_kind, kind_of_number, number_of_truth, kinds, file_name, is_mark, program_file, is_few, is_short, is_template, is_new, many, value_of, variable_name, variable, is_host_name, function_name, function, instructions, title_field, node, id_field, base_line}
+use Rattle.yarn_code.specs.Format.{IsSpelled, ◌>>=◌, Ends, U8, U32, U64, number_bytes, text_bytes, times}
+use Rattle.yarn_code.specs.Layout.{any, text, kind_field, number_of_kind, kind_of_number, number_of_truth, kinds, file_name, is_mark, program_file, is_few, is_short, is_template, is_new, many, value_of, variable_name, variable, is_host_name, function_name, function, instructions, title_field, node, id_field, base_line}
 use Rattle.yarn_code.specs.Writing.{Writes, HasWritten}
 use Rattle.yarn_code.proofs.WritingLemmas.{HasWritten-next, Writes-end, Writes-then, number_written, text_written}
 use Rattle.yarn_code.proofs.CodedLemmas.{few_passes, few_byte, short_passes, short_word, truth_byte, truth_passes, truth_back, whole_back, whole_small, template_passes}

@@ -1,9 +1,9 @@
 -- What is read by a format is what the bytes spell, and where reading stops they are refused.
-use Rattle.std.proofs.Common.{◌≡◌, ◌≢◌, ℕ, zero, suc, ◌+◌, ◌-◌, ◌^◌, ◌<◌, ◌≤◌, Bool, true, false, cond, ltb, List, [], ◌∷◌, ◌++◌, length, get_or, take, drop, Result, Ok, Err, refl, sym, ap, subst, ◌∙◌, append_assoc, arith, ◌⊎◌, inl, inr, ◌||◌, not}
-use Rattle.std.proofs.lemmas.List.{append-nil, length-append}
-use Rattle.yarn_code.specs.Format.{Format, ◌>>=◌, Ends, Number, Text, Size, U8, U32, U64, number_bytes, text_bytes, IsNumber, IsText, NoNumber, NoText, IsSpelled, IsBadAt, times}
+use Rattle.std.proofs.Common.{◌≡◌, ◌≢◌, ℕ, ◌+◌, Bool, true, false, cond, List, [], ◌∷◌, ◌++◌, length, Result, Ok, Err, refl, sym, ap, subst, ◌∙◌, append_assoc, arith, ◌⊎◌, inl, inr}
+use Rattle.std.proofs.lemmas.List.{length-append}
+use Rattle.yarn_code.specs.Format.{Format, ◌>>=◌, Ends, Number, Text, Size, U32, number_bytes, text_bytes, IsNumber, IsText, NoNumber, NoText, IsSpelled, IsBadAt}
 use Rattle.yarn_code.specs.FormatReading.{Read, and_then, number_at, text_at, read, passing, any_number, any_text, text_of}
-use Rattle.yarn_code.proofs.FieldLemmas.{IsBytes, bind_ok, Takes, number_takes, number_again, text_takes, text_again}
+use Rattle.yarn_code.proofs.FieldLemmas.{IsBytes, bind_ok, number_takes, number_again, text_takes, text_again}
 
 abbrev done : {A : Type 0} → A → Result A ℕ
 done x = Ok x

@@ -1,9 +1,9 @@
 -- Writing one field or part after another.
-use Rattle.std.proofs.Common.{◌≡◌, ℕ, zero, suc, ◌+◌, ◌-◌, ◌^◌, ◌<◌, ◌≤◌, Bool, true, false, List, [], ◌∷◌, ◌++◌, length, take, drop, map, slice_get, get_or, Option, Some, refl, sym, ap, subst, ◌∙◌, append_assoc, arith}
+use Rattle.std.proofs.Common.{◌≡◌, ℕ, zero, suc, ◌+◌, ◌-◌, ◌^◌, ◌<◌, ◌≤◌, Bool, true, List, [], ◌∷◌, ◌++◌, length, take, slice_get, get_or, Some, refl, sym, ap, subst, ◌∙◌, append_assoc, arith}
 use Rattle.std.specs.Str.{IsUtf8}
-use Rattle.std.proofs.lemmas.List.{append-nil, length-append}
-use Rattle.yarn_code.specs.Format.{Format, ◌>>=◌, Ends, Number, Text, Size, U32, limit, number_bytes, text_bytes, IsNumber, IsText, IsSpelled, times}
-use Rattle.yarn_code.specs.Layout.{any, word, many}
+use Rattle.std.proofs.lemmas.List.{append-nil}
+use Rattle.yarn_code.specs.Format.{Format, ◌>>=◌, Ends, Number, Text, Size, U32, limit, number_bytes, text_bytes, IsSpelled, times}
+use Rattle.yarn_code.specs.Layout.{any, many}
 use Rattle.yarn_code.specs.Writing.{Writes, HasWritten}
 use Rattle.yarn_code.proofs.FormatLemmas.{spelled-then}
 

@@ -1,6 +1,6 @@
 -- Reading a format from left to right, up to the first field that isn't as it has to be. The laws of formats say what
 -- that has to do with what bytes spell.
-use Rattle.std.specs.Prelude.{ℕ, List, [], length, take, drop, nat_lt, Bool, true, if◌then◌else◌, Result, Ok, Err, ◌||◌, not}
+use Rattle.std.specs.Prelude.{ℕ, List, length, take, drop, nat_lt, Bool, if◌then◌else◌, Result, Ok, Err, ◌||◌, not}
 use Rattle.std.specs.Str.{is_utf8}
 use Rattle.std.specs.Int.{byte_len, from_be_bytes}
 use Rattle.yarn_code.specs.Format as format

@@ -1,5 +1,5 @@
 -- The fields of a program file in order, and the rules of each (docs/formats.md, Program files).
-use Rattle.std.specs.Prelude.{ℕ, ℤ, List, [], ◌∷◌, length, codes, Bool, true, nat_eq, nat_le, nat_lt, not, ◌&&◌, is_some, slice_get, Option, Some, None, if◌then◌else◌}
+use Rattle.std.specs.Prelude.{ℕ, ℤ, List, [], length, codes, Bool, true, nat_eq, nat_le, nat_lt, not, ◌&&◌, is_some, slice_get, Option, Some, None, if◌then◌else◌}
 use Rattle.std.specs.Str.{chars, bytes_eq}
 use Rattle.std.specs.List.{list_all}
 use Rattle.std.specs.Int.{w64, cast_signed}

@@ -1,5 +1,5 @@
 -- Which bytes spell a program, and where others are refused (docs/formats.md, Program files).
-use Rattle.std.specs.Prelude.{◌≡◌, ◌≤◌, ℕ, List, [], ◌∷◌, ◌++◌, codes}
+use Rattle.std.specs.Prelude.{◌≡◌, ◌≤◌, ℕ, List, ◌∷◌, ◌++◌, codes}
 use Rattle.yarn_code.specs.declared.program.Program.{Program}
 use Rattle.yarn_code.specs.Format.{IsSpelled, IsBadAt}
 use Rattle.yarn_code.specs.Layout.{program_file}

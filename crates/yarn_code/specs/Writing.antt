@@ -1,5 +1,5 @@
 -- What a call puts behind the bytes that are there.
-use Rattle.std.specs.Prelude.{◌≡◌, ◌-◌, ℕ, List, [], ◌∷◌, ◌++◌, length, take, All}
+use Rattle.std.specs.Prelude.{◌≡◌, ◌-◌, ℕ, List, [], ◌++◌, length, take, All}
 use Rattle.std.specs.Str.{IsUtf8}
 use Rattle.yarn_code.specs.declared.program.CodeNode.{CodeNode}
 use Rattle.yarn_code.specs.Fields.{HasOperands}

@@ -1,8 +1,6 @@
-use Rattle.std.proofs.Common.{◌<◌, ◌^◌, ◌≤◌, ◌≡◌, Bool, true, ℕ, List, length, refl, subst, arith}
-use Rattle.yarn_value.specs.Numbers.{fits}
+use Rattle.std.proofs.Common.{refl, subst, arith}
 use Rattle.yarn_code.specs.declared.program.Instr.TheVariants as code
-use Rattle.yarn_code.specs.Fields.{HasOperands, HasWords, IsWord}
-use Rattle.yarn_code.specs.Fields as fields
+use Rattle.yarn_code.specs.Fields.{HasOperands, HasWords}
 use Rattle.yarn_code.specs.Layout.{any, is_short, is_template}
 use Rattle.yarn_code.proofs.CodedLemmas.{OnOk-map, bare_written, label_written, named_written, counted_written, option_written, bool_written, float_written, short_passes, short_word, template_passes}
 use Rattle.yarn_code.proofs.encoded_code.put_coded.Goals as goal

@@ -1,8 +1,8 @@
 use Rattle.std.proofs.Common.{◌≡◌, ◌++◌, subst}
 use Rattle.yarn_code.specs.Format.{U32, number_bytes}
-use Rattle.std.proofs.Common.{take, refl, length, ◌<◌}
+use Rattle.std.proofs.Common.{length, ◌<◌}
 use Rattle.yarn_code.specs.Layout.{file_name}
-use Rattle.yarn_code.proofs.WritingLemmas.{HasWritten-none, HasWritten-next, HasWritten-end, item_here, many_written}
+use Rattle.yarn_code.proofs.WritingLemmas.{HasWritten-next, HasWritten-end, item_here, many_written}
 use Rattle.yarn_code.proofs.EncodingLemmas.{file_written, item_of}
 use Rattle.yarn_code.proofs.encoding.put_files.Goals as goal
 

@@ -1,8 +1,8 @@
 use Rattle.std.proofs.Common.{◌≡◌, ◌++◌, subst}
 use Rattle.yarn_code.specs.Format.{U32, number_bytes}
-use Rattle.std.proofs.Common.{take, refl, length, ◌<◌}
+use Rattle.std.proofs.Common.{take}
 use Rattle.yarn_code.specs.Layout.{variable}
-use Rattle.yarn_code.proofs.WritingLemmas.{HasWritten-none, HasWritten-next, HasWritten-end, item_here, many_written}
+use Rattle.yarn_code.proofs.WritingLemmas.{HasWritten-next, HasWritten-end, item_here, many_written}
 use Rattle.yarn_code.proofs.EncodingLemmas.{variable_new}
 use Rattle.yarn_code.proofs.encoding.put_variables.Goals as goal
 
