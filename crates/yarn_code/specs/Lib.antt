@@ -4,6 +4,13 @@ pub mod Answers
 pub mod Moments
 pub mod Parts
 pub mod Fields
+pub mod Format
+pub mod FormatReading
+pub mod Opcodes
+pub mod Layout
+pub mod Spelling
+pub mod Writing
+pub mod SpellingLaws
 pub mod Kinds
 pub mod MachineState
 pub mod Machine
