@@ -19,3 +19,5 @@ pub mod Comes
 pub mod Outcomes
 pub mod Rebuilding
 pub mod Beginnings
+pub mod CellLists
+pub mod Taken

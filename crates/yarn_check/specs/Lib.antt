@@ -6,3 +6,4 @@ pub mod PassLaws
 pub mod Shaped
 pub mod Fits
 pub mod Laws
+pub mod Views

@@ -1,8 +1,13 @@
 //! When a program is valid, and what holds of the states of its runs.
 #![tactic(auto)]
 
+mod coming;
+mod entry;
 mod laws;
+mod stack;
+mod values;
 
+pub use entry::ShapeEntry;
 pub use laws::{
     begun_stores_fit, check_is_exact, entries_are_shaped, events_come, look_is_exact, never_stuck,
     none_open_is_a_fault, parts_fit, pass_is_exact, rebuilt_states_are_shaped, replies_are_taken,

@@ -1,0 +1,37 @@
+-- What the checker's values stand for (docs/instructions.md, Shapes).
+use Rattle.std.specs.Prelude.{ℕ, List, [], map, reverse, Option, Some, None, Bool, true, false}
+use Rattle.std.specs.Global.{Vec}
+use Rattle.yarn_value.specs.declared.value.Kind.{Kind}
+use Rattle.yarn_value.specs.declared.value.Kind.TheVariants as kind
+use Rattle.yarn_check.specs.Shapes as spec
+use Rattle.yarn_check.specs.Pass as pass
+use Rattle.yarn_check.specs.declared.entry.ShapeEntry.{ShapeEntry}
+use Rattle.yarn_check.specs.declared.entry.ShapeEntry.TheVariants as entry
+use Rattle.yarn_check.specs.declared.stack.Stack.{Stack}
+use Rattle.yarn_check.specs.declared.coming.Coming.{Coming}
+use Rattle.yarn_check.specs.declared.coming.Coming.TheVariants as coming
+
+abbrev pub entry_of : ShapeEntry → spec.ShapeEntry
+entry_of entry.Number = spec.Of kind.Number
+entry_of entry.Str = spec.Of kind.Str
+entry_of entry.Truth = spec.Of kind.Truth
+entry_of entry.Null = spec.Null
+entry_of (entry.Destination labels) = spec.Destination labels
+
+-- the kind of an entry that is a value
+abbrev pub kind_in : spec.ShapeEntry → Option Kind
+kind_in (spec.Of k) = Some k
+kind_in spec.Null = None
+kind_in (spec.Destination labels) = None
+
+-- the top is the last in the code
+abbrev pub stack_of : Stack → spec.Shape
+stack_of s = spec.shape (reverse (map entry_of s.entries.items)) s.pending
+
+abbrev pub coming_of : Coming → pass.Coming
+coming_of coming.Nothing = pass.Nothing
+coming_of (coming.Alone s) = pass.Alone (stack_of s.value)
+coming_of coming.Several = pass.Several
+
+abbrev pub cells_of : List Coming → List pass.Coming
+cells_of cells = map coming_of cells
