@@ -21,3 +21,4 @@ pub mod Rebuilding
 pub mod Beginnings
 pub mod CellLists
 pub mod Taken
+pub mod NameLemmas

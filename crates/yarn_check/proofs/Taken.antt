@@ -12,10 +12,10 @@ use Rattle.yarn_check.specs.Views.{entry_of}
 use Rattle.yarn_check.specs.declared.entry.ShapeEntry.{ShapeEntry}
 
 -- the last is the top
-pub top_is : (items rest : List Entry) (x : Entry) → items ≡ rest ++ x ∷ [] → reverse (map entry_of items) ≡ entry_of x ∷ reverse (map entry_of rest)
+pub top_is : (items rest : List ShapeEntry) (x : ShapeEntry) → items ≡ rest ++ x ∷ [] → reverse (map entry_of items) ≡ entry_of x ∷ reverse (map entry_of rest)
 top_is items rest x e = ap (λ l. reverse (map entry_of l)) e ∙ ap reverse (map-append entry_of rest (x ∷ [])) ∙ reverse-append (map entry_of rest) (entry_of x ∷ [])
 
-pub none_left : (items : List Entry) → length items ≡ 0 → reverse (map entry_of items) ≡ []
+pub none_left : (items : List ShapeEntry) → length items ≡ 0 → reverse (map entry_of items) ≡ []
 none_left [] e = refl
 none_left (x ∷ items) e = absurd (omega (arith, e))
 
@@ -34,7 +34,7 @@ module _ (count : ℕ) (old next : List spec.ShapeEntry) where
   pub taken_some : (r : Option (Vec Kind)) (v : Vec Kind) → r ≡ Some v → ((go : List Kind → List spec.ShapeEntry → spec.Flow) → MatchOption r (spec.take_kinds count [] old go ≡ None) (λ kinds. spec.take_kinds count [] old go ≡ go (reverse kinds.items) next)) → Takes (reverse v.items)
   taken_some r v e h = λ go. MatchOption-at_some (spec.take_kinds count [] old go ≡ None) (λ (kinds : Vec Kind). spec.take_kinds count [] old go ≡ go (reverse kinds.items) next) v e (h go)
 
-module _ (p : Program) (i : Instr) (count place : ℕ) (items copied : List Entry) (same : copied ≡ items) (pending now : List ℕ) (kept : now ≡ pending) (next : List spec.ShapeEntry) (kinds : List Kind) where
+module _ (p : Program) (i : Instr) (count place : ℕ) (items copied : List ShapeEntry) (same : copied ≡ items) (pending now : List ℕ) (kept : now ≡ pending) (next : List spec.ShapeEntry) (kinds : List Kind) where
   line_at : (pending : List ℕ) → pending ≡ [] → Takes count (reverse (map entry_of items)) next kinds → spec.flow p (code.RunLine count []) place (reverse (map entry_of items)) pending ≡ spec.goes_on place next pending
   line_at [] e t = t (λ kinds rest. spec.goes_on place rest [])
   line_at (x ∷ l) e t = absurd cc
@@ -48,7 +48,7 @@ module _ (p : Program) (i : Instr) (count place : ℕ) (items copied : List Entr
       ap (λ l. Some (spec.goal (place + 1) (spec.shape next l) ∷ [])) kept
       ∙ sym (ap (λ j. spec.flow p j place (reverse (map entry_of items)) pending) e ∙ line_at pending none (taken_same t))
 
-module _ (p : Program) (count place label : ℕ) (conditional : Bool) (items copied : List Entry) (same : copied ≡ items) (pending old now : List ℕ) (kept : old ≡ pending) (pushed : now ≡ old ++ label ∷ []) (mid next : List spec.ShapeEntry) (kinds : List Kind) where
+module _ (p : Program) (count place label : ℕ) (conditional : Bool) (items copied : List ShapeEntry) (same : copied ≡ items) (pending old now : List ℕ) (kept : old ≡ pending) (pushed : now ≡ old ++ label ∷ []) (mid next : List spec.ShapeEntry) (kinds : List Kind) where
   pub option_runs : ((go : List spec.ShapeEntry → spec.Flow) → spec.on_condition conditional (reverse (map entry_of copied)) go ≡ go mid) → Takes count mid next kinds →
       Some (spec.goal (place + 1) (spec.shape next now) ∷ []) ≡ spec.flow p (code.AddOption count [] label conditional) place (reverse (map entry_of items)) pending
   option_runs c t =

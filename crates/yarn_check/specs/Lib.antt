@@ -7,3 +7,4 @@ pub mod Shaped
 pub mod Fits
 pub mod Laws
 pub mod Views
+pub mod NameMaps

@@ -4,6 +4,7 @@
 mod coming;
 mod entry;
 mod laws;
+mod names;
 mod stack;
 mod values;
 
