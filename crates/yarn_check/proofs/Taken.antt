@@ -1,23 +1,14 @@
--- Values that are taken from the top of a stack whose last entry is the top.
-use Rattle.std.proofs.Common.{◌≡◌, ℕ, suc, ◌<◌, ◌+◌, ◌-◌, List, [], ◌∷◌, ◌++◌, length, map, reverse, Option, Some, None, refl, sym, ap, ◌∙◌, arith, Bool, Result, Ok, Err, IfOk, MatchOption}
+-- Values that are taken from the top of a stack, whose last entry is the top.
+use Rattle.std.proofs.Common.{◌≡◌, ℕ, suc, ◌<◌, ◌+◌, ◌-◌, List, [], ◌∷◌, ◌++◌, Option, Some, None, refl, sym, ap, ◌∙◌, arith, Bool, Result, Ok, Err, IfOk, MatchOption, length, map, reverse, Bor}
 use Rattle.std.specs.Global.{Vec}
 use Rattle.std.proofs.lemmas.Option.{MatchOption-at_some}
-use Rattle.yarn_code.specs.declared.program.Instr.TheVariants as code
-use Rattle.yarn_code.specs.declared.program.Instr.{Instr}
-use Rattle.yarn_code.specs.declared.program.Program.{Program}
+use Rattle.std.specs.Prelude.{slice_get}
+use Rattle.std.specs.Option.{option_copied}
 use Rattle.std.proofs.lemmas.List.{reverse-append, map-append}
 use Rattle.yarn_value.specs.declared.value.Kind.{Kind}
-use Rattle.yarn_check.specs.Shapes as spec
+use Rattle.yarn_check.specs.declared.entry.ShapeEntry.{ShapeEntry as Entry}
 use Rattle.yarn_check.specs.Views.{entry_of}
-use Rattle.yarn_check.specs.declared.entry.ShapeEntry.{ShapeEntry}
-
--- the last is the top
-pub top_is : (items rest : List ShapeEntry) (x : ShapeEntry) → items ≡ rest ++ x ∷ [] → reverse (map entry_of items) ≡ entry_of x ∷ reverse (map entry_of rest)
-top_is items rest x e = ap (λ l. reverse (map entry_of l)) e ∙ ap reverse (map-append entry_of rest (x ∷ [])) ∙ reverse-append (map entry_of rest) (entry_of x ∷ [])
-
-pub none_left : (items : List ShapeEntry) → length items ≡ 0 → reverse (map entry_of items) ≡ []
-none_left [] e = refl
-none_left (x ∷ items) e = absurd (omega (arith, e))
+use Rattle.yarn_check.specs.Shapes.{ShapeEntry, Flow, take_kinds, on_condition, if_nothing, goes_on, goal, shape}
 
 pub less_one : (count i : ℕ) → i < count → count - i ≡ suc (count - (i + 1))
 less_one count i lt = omega (arith, lt)
@@ -26,32 +17,46 @@ pub if_ok : {T E : Type 0} (P Q : T → Type 0) (r : Result T E) → IfOk r P �
 if_ok P Q (Ok x) h f = f x h
 if_ok P Q (Err e) h f = tt
 
-module _ (count : ℕ) (old next : List spec.ShapeEntry) where
-  -- so many values are taken
+pub nothing_pending : (pending : List ℕ) (f : Flow) → pending ≡ [] → if_nothing pending f ≡ f
+nothing_pending [] f e = refl
+nothing_pending (label ∷ labels) f e = absurd cc
+
+module _ (count : ℕ) (old next : List ShapeEntry) where
+  -- so many values of these kinds are taken
   abbrev pub Takes : List Kind → Type 0
-  Takes kinds = (go : List Kind → List spec.ShapeEntry → spec.Flow) → spec.take_kinds count [] old go ≡ go kinds next
+  Takes kinds = (go : List Kind → List ShapeEntry → Flow) → take_kinds count [] old go ≡ go kinds next
 
-  pub taken_some : (r : Option (Vec Kind)) (v : Vec Kind) → r ≡ Some v → ((go : List Kind → List spec.ShapeEntry → spec.Flow) → MatchOption r (spec.take_kinds count [] old go ≡ None) (λ kinds. spec.take_kinds count [] old go ≡ go (reverse kinds.items) next)) → Takes (reverse v.items)
-  taken_some r v e h = λ go. MatchOption-at_some (spec.take_kinds count [] old go ≡ None) (λ (kinds : Vec Kind). spec.take_kinds count [] old go ≡ go (reverse kinds.items) next) v e (h go)
+  pub taken : (r : Option (Vec Kind)) (v : Vec Kind) → r ≡ Some v →
+      ((go : List Kind → List ShapeEntry → Flow) → MatchOption r (take_kinds count [] old go ≡ None) (λ (kinds : Vec Kind). take_kinds count [] old go ≡ go kinds.items next)) → Takes v.items
+  taken r v e h = λ go. MatchOption-at_some (take_kinds count [] old go ≡ None) (λ (kinds : Vec Kind). take_kinds count [] old go ≡ go kinds.items next) v e (h go)
 
-module _ (p : Program) (i : Instr) (count place : ℕ) (items copied : List ShapeEntry) (same : copied ≡ items) (pending now : List ℕ) (kept : now ≡ pending) (next : List spec.ShapeEntry) (kinds : List Kind) where
-  line_at : (pending : List ℕ) → pending ≡ [] → Takes count (reverse (map entry_of items)) next kinds → spec.flow p (code.RunLine count []) place (reverse (map entry_of items)) pending ≡ spec.goes_on place next pending
-  line_at [] e t = t (λ kinds rest. spec.goes_on place rest [])
-  line_at (x ∷ l) e t = absurd cc
+  pub given : (place : ℕ) (pending : List ℕ) (kinds : List Kind) → pending ≡ [] → Takes kinds →
+      if_nothing pending (take_kinds count [] old (λ kinds rest. goes_on place rest pending)) ≡ goes_on place next pending
+  given place pending kinds none takes =
+      nothing_pending pending (take_kinds count [] old (λ kinds rest. goes_on place rest pending)) none ∙ takes (λ kinds rest. goes_on place rest pending)
 
-  taken_same : Takes count (reverse (map entry_of copied)) next kinds → Takes count (reverse (map entry_of items)) next kinds
-  taken_same t = λ go. ap (λ l. spec.take_kinds count [] (reverse (map entry_of l)) go) (sym same) ∙ t go
+  pub not_given : (place : ℕ) (pending : List ℕ) → pending ≡ [] → ((go : List Kind → List ShapeEntry → Flow) → take_kinds count [] old go ≡ None) →
+      if_nothing pending (take_kinds count [] old (λ kinds rest. goes_on place rest pending)) ≡ None
+  not_given place pending none fails =
+      nothing_pending pending (take_kinds count [] old (λ kinds rest. goes_on place rest pending)) none ∙ fails (λ kinds rest. goes_on place rest pending)
 
-  pub line_runs : i ≡ code.RunLine count [] → pending ≡ [] → Takes count (reverse (map entry_of copied)) next kinds →
-      Some (spec.goal (place + 1) (spec.shape next now) ∷ []) ≡ spec.flow p i place (reverse (map entry_of items)) pending
-  line_runs e none t =
-      ap (λ l. Some (spec.goal (place + 1) (spec.shape next l) ∷ [])) kept
-      ∙ sym (ap (λ j. spec.flow p j place (reverse (map entry_of items)) pending) e ∙ line_at pending none (taken_same t))
+  pub untaken : (r : Option (Vec Kind)) → r ≡ None →
+      ((go : List Kind → List ShapeEntry → Flow) → MatchOption r (take_kinds count [] old go ≡ None) (λ (kinds : Vec Kind). take_kinds count [] old go ≡ go kinds.items next)) → (go : List Kind → List ShapeEntry → Flow) → take_kinds count [] old go ≡ None
+  untaken None e h = h
+  untaken (Some v) e h = absurd cc
 
-module _ (p : Program) (count place label : ℕ) (conditional : Bool) (items copied : List ShapeEntry) (same : copied ≡ items) (pending old now : List ℕ) (kept : old ≡ pending) (pushed : now ≡ old ++ label ∷ []) (mid next : List spec.ShapeEntry) (kinds : List Kind) where
-  pub option_runs : ((go : List spec.ShapeEntry → spec.Flow) → spec.on_condition conditional (reverse (map entry_of copied)) go ≡ go mid) → Takes count mid next kinds →
-      Some (spec.goal (place + 1) (spec.shape next now) ∷ []) ≡ spec.flow p (code.AddOption count [] label conditional) place (reverse (map entry_of items)) pending
-  option_runs c t =
-      let then = λ (rest : List spec.ShapeEntry). spec.take_kinds count [] rest (λ kinds rest1. spec.goes_on place rest1 (pending ++ label ∷ [])) in
-      ap (λ l. Some (spec.goal (place + 1) (spec.shape next l) ∷ [])) (pushed ∙ ap (λ l. l ++ label ∷ []) kept)
-      ∙ sym (ap (λ l. spec.on_condition conditional (reverse (map entry_of l)) then) (sym same) ∙ c then ∙ t (λ kinds rest1. spec.goes_on place rest1 (pending ++ label ∷ [])))
+-- ---- the top
+
+pub top_at : (items : List Entry) (x : Entry) → slice_get items (length items - 1) ≡ Some x → (front : List Entry) × (items ≡ front ++ x ∷ [])
+top_at [] x e = absurd cc
+top_at (y ∷ []) x e = let same : y ≡ x = cc in ([], ap (λ z. z ∷ []) same)
+top_at (y ∷ z ∷ items) x e =
+    let at : length (y ∷ z ∷ items) - 1 ≡ suc (length (z ∷ items) - 1) = omega arith in
+    let more = top_at (z ∷ items) x (ap (slice_get (y ∷ z ∷ items)) (sym at) ∙ e) in
+    (y ∷ more.0, ap (λ l. y ∷ l) more.1)
+
+pub top_is : (items : List Entry) (x : Bor Entry) (o : Option (Bor Entry)) → o ≡ Some x → option_copied o ≡ slice_get items (length items - 1) →
+    (rest : List ShapeEntry) × (reverse (map entry_of items) ≡ entry_of x.now ∷ rest)
+top_is items x o e is =
+    let front = top_at items x.now (sym is ∙ ap option_copied e) in
+    (reverse (map entry_of front.0), ap (λ l. reverse (map entry_of l)) front.1 ∙ ap reverse (map-append entry_of front.0 (x.now ∷ [])) ∙ reverse-append (map entry_of front.0) (entry_of x.now ∷ []))

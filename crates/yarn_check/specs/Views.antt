@@ -8,6 +8,7 @@ use Rattle.yarn_check.specs.Pass as pass
 use Rattle.yarn_check.specs.declared.entry.ShapeEntry.{ShapeEntry}
 use Rattle.yarn_check.specs.declared.entry.ShapeEntry.TheVariants as entry
 use Rattle.yarn_check.specs.declared.stack.Stack.{Stack}
+use Rattle.yarn_check.specs.declared.flow.Goal.{Goal}
 use Rattle.yarn_check.specs.declared.coming.Coming.{Coming}
 use Rattle.yarn_check.specs.declared.coming.Coming.TheVariants as coming
 
@@ -35,3 +36,10 @@ coming_of coming.Several = pass.Several
 
 abbrev pub cells_of : List Coming → List pass.Coming
 cells_of cells = map coming_of cells
+
+abbrev pub goal_of : Goal → spec.Goal
+goal_of g = spec.goal g.place (stack_of g.stack.value)
+
+abbrev pub goals_of : Option (Vec Goal) → spec.Flow
+goals_of None = None
+goals_of (Some goals) = Some (map goal_of goals.items)

@@ -1,6 +1,6 @@
 //! What stands at a place of the stack.
-ghost use Rattle.std.specs.Prelude.{◌≡◌, IfOk, option_map};
-ghost use Rattle.yarn_check.specs.Shapes.{Of};
+ghost use Rattle.std.specs.Prelude.{◌≡◌, ◌∷◌, List as Items, None, IfOk, if◌then◌else◌};
+ghost use Rattle.yarn_check.specs.Shapes.{ShapeEntry as AnEntry, Flow, Of, on_kind};
 ghost use Rattle.yarn_check.specs.Pass.{same_entry};
 ghost use Rattle.yarn_check.specs.Views.{entry_of, kind_in};
 
@@ -41,6 +41,16 @@ impl ShapeEntry {
             ShapeEntry::Truth => Some(Kind::Truth),
             ShapeEntry::Null => None,
             ShapeEntry::Destination(_) => None,
+        }
+    }
+
+    /// Whether it is a value of that kind.
+    pub(crate) fn is_of(&self, kind: Kind) -> bool
+        ensures { (rest : Items AnEntry) (go : Flow) → on_kind kind (entry_of self.now ∷ rest) (λ rest. go) ≡ (if result then go else None) }
+    {
+        match self.kind() {
+            Some(own) => kind == own,
+            None => false,
         }
     }
 

@@ -3,6 +3,7 @@
 
 mod coming;
 mod entry;
+mod flow;
 mod laws;
 mod names;
 mod stack;

@@ -1,7 +1,7 @@
 //! A shape as the pass over a node has it.
-ghost use Rattle.std.specs.Prelude.{◌≡◌, IfOk, [], map, length, OnOk};
+ghost use Rattle.std.specs.Prelude.{◌≡◌, IfOk, [], map, length, None, if◌then◌else◌};
 ghost use Rattle.std.specs.Cmp.Lexicographic.{pointwise};
-ghost use Rattle.yarn_check.specs.Shapes.{shape};
+ghost use Rattle.yarn_check.specs.Shapes.{shape, Flow, on_kind};
 ghost use Rattle.yarn_check.specs.Pass.{same_entry, same_shape, is_small as small};
 ghost use Rattle.yarn_check.specs.Views.{entry_of, stack_of};
 
@@ -9,6 +9,7 @@ use crate::ShapeEntry;
 use smallvec::SmallVec;
 use std::alloc::Global;
 use yarn_base::{List, Memory};
+use yarn_value::Kind;
 
 /// The entries of the stack, the top last, and the labels of the pending options in order.
 #[derive(Debug, Drop)]
@@ -49,6 +50,16 @@ impl Stack {
     {
         same_entries(self.entries.as_slice(), other.entries.as_slice())
             && self.pending == other.pending
+    }
+
+    /// Whether a value of that kind is on top.
+    pub(crate) fn has_on_top(&self, kind: Kind) -> bool
+        ensures { (go : Flow) → on_kind kind (stack_of self.now).entries (λ rest. go) ≡ (if result then go else None) }
+    {
+        match self.entries.as_slice().last() {
+            Some(entry) => entry.is_of(kind),
+            None => false,
+        }
     }
 
     /// Whether it is no larger than a shape may be.

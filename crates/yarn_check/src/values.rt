@@ -10,7 +10,7 @@ use std::alloc::Global;
 use yarn_base::Memory;
 use yarn_value::Kind;
 
-/// Takes so many values, and gives their kinds, that of the top first; none where one is no value.
+/// Takes so many values, and gives their kinds, that of the top last; none where one is no value.
 pub(crate) fn take(
     alloc: Global,
     entries: &mut SmallVec<ShapeEntry, 8>,
@@ -18,7 +18,7 @@ pub(crate) fn take(
 ) -> Result<Option<Vec<Kind>>, Memory>
     ensures { IfOk result (λ r. (go : List AKind → List spec.ShapeEntry → spec.Flow) →
         MatchOption r (spec.take_kinds count [] (reverse (map entry_of entries.old.items)) go ≡ None)
-        (λ kinds. spec.take_kinds count [] (reverse (map entry_of entries.old.items)) go ≡ go (reverse kinds.items) (reverse (map entry_of entries.new.items)))) }
+        (λ kinds. spec.take_kinds count [] (reverse (map entry_of entries.old.items)) go ≡ go kinds.items (reverse (map entry_of entries.new.items)))) }
 {
     let mut kinds = Vec::new(alloc);
     for _ in 0..count {
@@ -27,6 +27,7 @@ pub(crate) fn take(
             None => return Ok(None),
         }
     }
+    kinds.as_mut_slice().reverse();
     Ok(Some(kinds))
 }
 
