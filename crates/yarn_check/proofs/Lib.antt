@@ -22,3 +22,4 @@ pub mod Beginnings
 pub mod CellLists
 pub mod Taken
 pub mod NameLemmas
+pub mod Alike

@@ -1,8 +1,8 @@
 -- Values that are taken from the top of a stack, whose last entry is the top.
-use Rattle.std.proofs.Common.{◌≡◌, ℕ, suc, ◌<◌, ◌+◌, ◌-◌, List, [], ◌∷◌, ◌++◌, Option, Some, None, refl, sym, ap, ◌∙◌, arith, Bool, Result, Ok, Err, IfOk, MatchOption, length, map, reverse, Bor}
+use Rattle.std.proofs.Common.{◌≡◌, ℕ, suc, ◌<◌, ◌+◌, ◌-◌, List, [], ◌∷◌, ◌++◌, Option, Some, None, refl, sym, ap, ◌∙◌, arith, Bool, Result, Ok, Err, IfOk, MatchOption, length, map, reverse, Bor, if◌then◌else◌}
 use Rattle.std.specs.Global.{Vec}
 use Rattle.std.proofs.lemmas.Option.{MatchOption-at_some}
-use Rattle.std.specs.Prelude.{slice_get}
+use Rattle.std.specs.Prelude.{slice_get, is_some}
 use Rattle.std.specs.Option.{option_copied}
 use Rattle.std.proofs.lemmas.List.{reverse-append, map-append}
 use Rattle.yarn_value.specs.declared.value.Kind.{Kind}
@@ -30,20 +30,10 @@ module _ (count : ℕ) (old next : List ShapeEntry) where
       ((go : List Kind → List ShapeEntry → Flow) → MatchOption r (take_kinds count [] old go ≡ None) (λ (kinds : Vec Kind). take_kinds count [] old go ≡ go kinds.items next)) → Takes v.items
   taken r v e h = λ go. MatchOption-at_some (take_kinds count [] old go ≡ None) (λ (kinds : Vec Kind). take_kinds count [] old go ≡ go kinds.items next) v e (h go)
 
-  pub given : (place : ℕ) (pending : List ℕ) (kinds : List Kind) → pending ≡ [] → Takes kinds →
-      if_nothing pending (take_kinds count [] old (λ kinds rest. goes_on place rest pending)) ≡ goes_on place next pending
-  given place pending kinds none takes =
-      nothing_pending pending (take_kinds count [] old (λ kinds rest. goes_on place rest pending)) none ∙ takes (λ kinds rest. goes_on place rest pending)
-
-  pub not_given : (place : ℕ) (pending : List ℕ) → pending ≡ [] → ((go : List Kind → List ShapeEntry → Flow) → take_kinds count [] old go ≡ None) →
-      if_nothing pending (take_kinds count [] old (λ kinds rest. goes_on place rest pending)) ≡ None
-  not_given place pending none fails =
-      nothing_pending pending (take_kinds count [] old (λ kinds rest. goes_on place rest pending)) none ∙ fails (λ kinds rest. goes_on place rest pending)
-
-  pub untaken : (r : Option (Vec Kind)) → r ≡ None →
-      ((go : List Kind → List ShapeEntry → Flow) → MatchOption r (take_kinds count [] old go ≡ None) (λ (kinds : Vec Kind). take_kinds count [] old go ≡ go kinds.items next)) → (go : List Kind → List ShapeEntry → Flow) → take_kinds count [] old go ≡ None
-  untaken None e h = h
-  untaken (Some v) e h = absurd cc
+  pub took : (r : Option (Vec Kind)) → ((go : List Kind → List ShapeEntry → Flow) → MatchOption r (take_kinds count [] old go ≡ None) (λ (kinds : Vec Kind). take_kinds count [] old go ≡ go kinds.items next)) →
+      (can : Bool) → can ≡ is_some r → (place : ℕ) (pending : List ℕ) → take_kinds count [] old (λ kinds rest. goes_on place rest pending) ≡ (if can then goes_on place next pending else None)
+  took None h can e place pending = h (λ kinds rest. goes_on place rest pending) ∙ ap (λ b. if b then goes_on place next pending else None) (sym e)
+  took (Some v) h can e place pending = h (λ kinds rest. goes_on place rest pending) ∙ ap (λ b. if b then goes_on place next pending else None) (sym e)
 
 -- ---- the top
 

@@ -116,13 +116,18 @@ fn give_values(alloc: Global, count: u8, stack: &mut Stack) -> Result<bool, Memo
     ensures { IfOk result (λ can. (place : ℕ) → if_nothing stack.old.pending (take_kinds count [] (stack_of stack.old).entries (λ kinds rest. goes_on place rest stack.old.pending)) ≡ (if can then goes_on place (stack_of stack.new).entries stack.new.pending else None)) }
 {
     if stack.pending.is_empty() {
-        match take(alloc, &mut stack.entries, count)? {
-            Some(_) => Ok(true),
-            None => Ok(false),
-        }
+        take_values(alloc, count, stack)
     } else {
         Ok(false)
     }
+}
+
+// Takes so many values, and says whether it could.
+fn take_values(alloc: Global, count: u8, stack: &mut Stack) -> Result<bool, Memory>
+    ensures { IfOk result (λ can. (place : ℕ) → take_kinds count [] (stack_of stack.old).entries (λ kinds rest. goes_on place rest stack.old.pending) ≡ (if can then goes_on place (stack_of stack.new).entries stack.new.pending else None)) }
+{
+    let kinds = take(alloc, &mut stack.entries, count)?;
+    Ok(kinds.is_some())
 }
 
 // ADD_OPTION.
@@ -377,11 +382,19 @@ fn run_node(alloc: Global, stack: Box<Stack>) -> Result<Option<Vec<Goal>>, Memor
     ensures { IfOk result (λ r. goals_of r ≡ if_nothing (stack_of stack.value).pending (on_kind kind.Str (stack_of stack.value).entries (λ rest. Some []))) }
 {
     if stack.pending.is_empty() {
-        if stack.has_on_top(Kind::Str) {
-            Ok(Some(Vec::new(alloc)))
-        } else {
-            Ok(None)
-        }
+        let can = stack.has_on_top(Kind::Str);
+        end(alloc, can)
+    } else {
+        Ok(None)
+    }
+}
+
+// No goal, where the instruction can run.
+fn end(alloc: Global, can: bool) -> Result<Option<Vec<Goal>>, Memory>
+    ensures { IfOk result (λ r. goals_of r ≡ (if can then Some [] else None)) }
+{
+    if can {
+        Ok(Some(Vec::new(alloc)))
     } else {
         Ok(None)
     }

@@ -8,6 +8,7 @@ mod laws;
 mod names;
 mod stack;
 mod values;
+mod node_walk;
 
 pub use entry::ShapeEntry;
 pub use laws::{

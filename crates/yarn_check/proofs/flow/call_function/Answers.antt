@@ -11,7 +11,7 @@ returns-in-Some c =
     let old = reverse (map entry_of c.args.stack.now.entries.items) in
     let next = reverse (map entry_of c.take.new.entries.items) in
     let takes = taken c.args.count old next c.in_ok-kinds.field-0 c.in-Some.kinds c.in-Some.is c.in_ok-kinds.ensures in
-    let same : c.call-result.result ≡ kind_called c.args.names.now c.args.name.now c.in-Some.kinds.items = c.call-result.ensures ∙ ap (kind_called c.args.names.now c.args.name.now) c.as_slice.ensures in
+    let same : c.call-result.result ≡ kind_called c.args.names.now c.args.name.now c.in-Some.kinds.items = c.call-result.ensures ∙ ap (kind_called c.args.names.now c.args.name.now) c.as_slice.ensures.value in
     if_ok (λ can. (place : ℕ) → on_known c.call-result.result (λ k. goes_on place (Of k ∷ next) c.args.stack.now.pending) ≡ (if can then goes_on place (stack_of c.push_result.new.stack).entries c.push_result.new.stack.pending else None))
     (λ can. (place : ℕ) → take_kinds c.args.count [] old (λ kinds rest. on_known (kind_called c.args.names.now c.args.name.now kinds) (λ k. goes_on place (Of k ∷ rest) c.args.stack.now.pending)) ≡ (if can then goes_on place (stack_of c.push_result.new.stack).entries c.push_result.new.stack.pending else None))
     c.push_result.result c.push_result.ensures
