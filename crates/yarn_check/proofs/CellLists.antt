@@ -81,3 +81,7 @@ module _ {A : Type 0} (f : A → Coming) (cells : List A) (place to : ℕ) (s : 
 
   pub put_back : to ≤ place → None ≡ put place (spec.goal to s) (map f cells)
   put_back back = sym (ap (λ b. if b then put_there (spec.goal to s) (map f cells) (slice_get (map f cells) to) else None) (le-ltb place to back))
+
+pub none_from : {A : Type 0} (o : Option A) → ((x : A) → o ≡ Some x → ⊥) → o ≡ None
+none_from None h = refl
+none_from (Some x) h = absurd (h x refl)

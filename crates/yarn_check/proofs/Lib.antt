@@ -23,3 +23,4 @@ pub mod CellLists
 pub mod Taken
 pub mod NameLemmas
 pub mod Alike
+pub mod ToldLemmas

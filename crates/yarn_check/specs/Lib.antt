@@ -8,3 +8,4 @@ pub mod Fits
 pub mod Laws
 pub mod Views
 pub mod NameMaps
+pub mod Told

@@ -3,6 +3,8 @@
 
 mod coming;
 mod entry;
+mod fault;
+mod first_look;
 mod flow;
 mod laws;
 mod names;
@@ -11,6 +13,7 @@ mod values;
 mod node_walk;
 
 pub use entry::ShapeEntry;
+pub use fault::CheckFault;
 pub use laws::{
     begun_stores_fit, check_is_exact, entries_are_shaped, events_come, look_is_exact, never_stuck,
     none_open_is_a_fault, parts_fit, pass_is_exact, rebuilt_states_are_shaped, replies_are_taken,

@@ -1,9 +1,9 @@
 //! The pass over a node.
-ghost use Rattle.std.specs.Prelude.{◌≡◌, ◌<◌, ◌≤◌, ◌+◌, ◌^◌, IfOk, map, length, get_or, take};
+ghost use Rattle.std.specs.Prelude.{◌≡◌, ◌<◌, ◌≤◌, ◌+◌, ◌^◌, IfOk, map, length, get_or, drop, take};
 ghost use Rattle.std.specs.Option.{option_and_then};
 ghost use Rattle.yarn_check.specs.Shapes.{flow as flow_of};
 ghost use Rattle.yarn_check.specs.Pass.{put as put_of, put_all as put_all_of, sized, step as step_of, walk as walk_of, beginning, Nothing};
-ghost use Rattle.yarn_check.specs.Views.{stack_of, cells_of, goal_of, if_put, stepped_of, stepped_from, walked_of, walked_from};
+ghost use Rattle.yarn_check.specs.Views.{stack_of, coming_of, cells_of, goal_of, if_put, stepped_of, stepped_from, walked_of, walked_from};
 
 use crate::coming::Coming;
 use crate::flow::{Goal, flow};
@@ -77,11 +77,21 @@ fn step(
     ensures whole { IfOk result (λ r. stepped_from (place + 1) (stepped_of r cells.new.items) ≡ stepped_from (place + 1) (step_of names.now instr.now place (cells_of cells.old.items) (get_or (cells_of cells.old.items) place Nothing))) }
     ensures count { length cells.new.items ≡ length cells.old.items }
 {
-    match mem::replace(&mut cells[place], Coming::Nothing) {
+    match take_out(cells, place) {
         Coming::Nothing => Ok(None),
         Coming::Alone(stack) => run(alloc, names, instr, place, stack, cells),
         Coming::Several => Ok(Some(NodeFault::Shapeless)),
     }
+}
+
+// Takes out what came to the instruction at that place.
+fn take_out(cells: &mut Vec<Coming>, place: usize) -> Coming
+    requires { place < length cells.old.items }
+    ensures came { coming_of result ≡ get_or (cells_of cells.old.items) place Nothing }
+    ensures left { drop (place + 1) (cells_of cells.new.items) ≡ drop (place + 1) (cells_of cells.old.items) }
+    ensures count { length cells.new.items ≡ length cells.old.items }
+{
+    mem::replace(&mut cells[place], Coming::Nothing)
 }
 
 // The instruction at that place, on the one shape that came to it.

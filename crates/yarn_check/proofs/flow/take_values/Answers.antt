@@ -5,5 +5,5 @@ use Rattle.yarn_check.proofs.flow.take_values.Goals as goal
 
 pub returns : goal.returns
 returns c = λ place.
-    took c.args.count (reverse (map entry_of c.args.stack.now.entries.items)) (reverse (map entry_of c.take-kinds.new.entries.items)) c.in_ok-kinds.kinds c.in_ok-kinds.ensures
+    took c.args.count (reverse (map entry_of c.args.stack.now.entries.items)) (reverse (map entry_of c.take.new.entries.items)) c.in_ok-kinds.kinds c.in_ok-kinds.ensures
     c.is_some.result c.is_some.ensures place c.args.stack.now.pending
