@@ -24,3 +24,4 @@ pub mod Taken
 pub mod NameLemmas
 pub mod Alike
 pub mod ToldLemmas
+pub mod JudgeLemmas

@@ -22,7 +22,7 @@ names_first o rest (fault.NoShape a b) e = named_first o rest (spec.NoShape a b)
 names_first o rest (fault.TooManyDeep a b) e = named_first o rest (spec.TooManyDeep a b) e
 names_first o rest fault.Memory e = tt
 
-names_same : (o other : Option spec.CheckFault) (f : CheckFault) → o ≡ other → Names o f → Names other f
+pub names_same : (o other : Option spec.CheckFault) (f : CheckFault) → o ≡ other → Names o f → Names other f
 names_same o other (fault.BadLabel a b) is e = sym is ∙ e
 names_same o other (fault.BackwardJump a b) is e = sym is ∙ e
 names_same o other (fault.UnknownVariable name) is e = sym is ∙ e

@@ -2,9 +2,10 @@
 use Rattle.std.specs.Prelude.{◌≡◌, ℕ, List, Option, Some, None, Result, Ok, Err, ⊤}
 use Rattle.yarn_code.specs.declared.program.CodeNode.{CodeNode}
 use Rattle.yarn_code.specs.declared.program.Program.{Program}
+use Rattle.yarn_code.specs.Fields.{HasFields}
 use Rattle.yarn_check.specs.Shapes.{IsValid}
 use Rattle.yarn_check.specs.Faults as spec
-use Rattle.yarn_check.specs.Pass.{Walked, Ended, Faulted, pass}
+use Rattle.yarn_check.specs.Pass.{Walked, Ended, Faulted, first_of, if_none, look_node, pass}
 use Rattle.yarn_check.specs.declared.fault.CheckFault.{CheckFault}
 use Rattle.yarn_check.specs.declared.fault.CheckFault.TheVariants as fault
 
@@ -32,13 +33,32 @@ fault_in node (Faulted f place) = Some (spec.told f node place)
 abbrev pub pass_node : Program → ℕ → CodeNode → Option spec.CheckFault
 pass_node p node n = fault_in node (pass p n)
 
--- the program isn't valid, and that is its first fault; want of memory says nothing of it
+-- the fault that a look at all instructions and then a pass over all nodes come to
+abbrev pub whole_fault : Program → Option spec.CheckFault
+whole_fault p = if_none (first_of (look_node p) 0 p.nodes) (first_of (pass_node p) 0 p.nodes)
+
+-- the program isn't valid, and that is its first fault
+pub record Refuses (p : Program) (f : spec.CheckFault) : Type 0 where
+  pub invalid : IsValid p → ⊥
+  pub first : spec.IsFirstFault p f
+
+-- the answer to a program that isn't valid names its first fault; want of memory says nothing of the program
 abbrev pub IsRefused : Program → CheckFault → Type 0
-IsRefused p (fault.BadLabel node place) = spec.IsFirstFault p (spec.BadLabel node place)
-IsRefused p (fault.BackwardJump node place) = spec.IsFirstFault p (spec.BackwardJump node place)
-IsRefused p (fault.UnknownVariable name) = spec.IsFirstFault p (spec.UnknownVariable name)
-IsRefused p (fault.UnknownFunction name) = spec.IsFirstFault p (spec.UnknownFunction name)
-IsRefused p (fault.UnknownLine id) = spec.IsFirstFault p (spec.UnknownLine id)
-IsRefused p (fault.NoShape node place) = spec.IsFirstFault p (spec.NoShape node place)
-IsRefused p (fault.TooManyDeep node place) = spec.IsFirstFault p (spec.TooManyDeep node place)
+IsRefused p (fault.BadLabel node place) = Refuses p (spec.BadLabel node place)
+IsRefused p (fault.BackwardJump node place) = Refuses p (spec.BackwardJump node place)
+IsRefused p (fault.UnknownVariable name) = Refuses p (spec.UnknownVariable name)
+IsRefused p (fault.UnknownFunction name) = Refuses p (spec.UnknownFunction name)
+IsRefused p (fault.UnknownLine id) = Refuses p (spec.UnknownLine id)
+IsRefused p (fault.NoShape node place) = Refuses p (spec.NoShape node place)
+IsRefused p (fault.TooManyDeep node place) = Refuses p (spec.TooManyDeep node place)
 IsRefused p fault.Memory = ⊤
+
+-- valid, or refused
+abbrev pub Judges : Program → Result (Unit {0}) CheckFault → Type 0
+Judges p (Ok done) = IsValid p
+Judges p (Err f) = IsRefused p f
+
+-- what a checked program keeps: its fields are as they may be, and it is valid
+pub record IsChecked (p : Program) : Type 0 where
+  pub fields : HasFields p
+  pub valid : IsValid p

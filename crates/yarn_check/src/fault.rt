@@ -1,4 +1,6 @@
 //! Why a program is refused.
+ghost use Rattle.std.specs.Prelude.{◌≡◌};
+
 use yarn_base::{Memory, Text};
 
 /// The first fault of a program, or want of memory. The rule is docs/instructions.md, Shapes.
@@ -25,6 +27,10 @@ pub enum CheckFault {
 }
 
 impl From<Memory> for CheckFault {
+    ghost use Rattle.yarn_check.specs.declared.fault.CheckFault.TheVariants as fault;
+
+    ghost from_gives = { λ _ e. e ≡ fault.Memory };
+
     fn from(_: Memory) -> CheckFault {
         CheckFault::Memory
     }

@@ -1,6 +1,7 @@
 //! When a program is valid, and what holds of the states of its runs.
 #![tactic(auto)]
 
+mod checked;
 mod coming;
 mod entry;
 mod fault;
@@ -12,6 +13,7 @@ mod stack;
 mod values;
 mod node_walk;
 
+pub use checked::{Checked, check};
 pub use entry::ShapeEntry;
 pub use fault::CheckFault;
 pub use laws::{

@@ -13,5 +13,5 @@ loop-place-preserved c =
     let ran = ap (λ r. stepped_from (place + 1) (stepped_of r c.step.new.cells.items)) (sym none) ∙ c.in_ok-fault.ensures.whole in
     record {
       long = c.in_ok-fault.ensures.count ∙ c.loop-place.invariant.long;
-      rest = step_at c.args.names.now c.args.code.now c.args.end place cells c.index-code-place.result (Moved (cells_of c.step.new.cells.items)) c.loop-place-test.true c.requires.within c.index-code-place.ensures ran ∙ c.loop-place.invariant.rest;
+      rest = step_at c.args.names.now c.args.code.now c.args.end place cells c.index-code-place.result (Moved (cells_of c.step.new.cells.items)) c.loop-place-test.true c.requires.within c.index-code-place.is ran ∙ c.loop-place.invariant.rest;
     }
