@@ -9,3 +9,4 @@ pub mod Laws
 pub mod Views
 pub mod NameMaps
 pub mod Told
+pub mod Missing

@@ -1,19 +1,23 @@
 //! Programs that were checked.
 ghost use Rattle.std.specs.Prelude.{◌≡◌, ◌<◌, All, Some, IfOk, IfErr, OnOk, length};
+ghost use Rattle.std.specs.Option.{option_copied};
 ghost use Rattle.yarn_code.specs.Fields.{HasFields, IsNodeField};
 ghost use Rattle.yarn_check.specs.Shapes.{IsValid};
 ghost use Rattle.yarn_check.specs.Faults.{told};
+ghost use Rattle.yarn_check.specs.Missing.{first_lacking};
 ghost use Rattle.yarn_check.specs.Pass.{first_of};
 ghost use Rattle.yarn_check.specs.Told.{IsRefused, Judges, Names as AreNames, Tells, pass_node as pass_node_of, whole_fault};
 ghost use Rattle.yarn_check.specs.Views.{node_fault};
 
 use crate::CheckFault;
 use crate::first_look::{look_all, words};
+use crate::missing::first_missing;
 use crate::names::Names;
 use crate::node_walk::{NodeFault, Walked, walk};
 use std::alloc::Global;
 use std::marker::Model;
 use yarn_code::{CodeNode, Program};
+use yarn_value::{Signature, Signatures};
 
 /// A valid program, which contracts see as the program. The rule is docs/instructions.md, Shapes.
 #[derive(Debug, Drop)]
@@ -40,6 +44,13 @@ impl Checked {
         ensures valid { IsValid self.now }
     {
         &self.program
+    }
+
+    /// The first function of the program that the signatures lack with that signature, and none where all are there.
+    pub fn first_missing(&self, signatures: &Signatures) -> Option<&Signature>
+        ensures { option_copied result ≡ first_lacking self.now.functions signatures.now }
+    {
+        first_missing(self.program.functions.as_slice(), signatures.as_slice())
     }
 }
 

@@ -175,11 +175,7 @@ fn add_label(
 }
 
 // SHOW_OPTIONS.
-fn show_options(
-    alloc: Global,
-    place: usize,
-    stack: Box<Stack>,
-) -> Result<Option<Vec<Goal>>, Memory>
+fn show_options(alloc: Global, place: usize, stack: Box<Stack>) -> Result<Option<Vec<Goal>>, Memory>
     requires { place + 1 < 2 ^ 64 }
     ensures { IfOk result (λ r. goals_of r ≡ if_something (stack_of stack.value).pending (goes_on place (Destination (stack_of stack.value).pending ∷ (stack_of stack.value).entries) [])) }
 {

@@ -8,10 +8,11 @@ mod fault;
 mod first_look;
 mod flow;
 mod laws;
+mod missing;
 mod names;
+mod node_walk;
 mod stack;
 mod values;
-mod node_walk;
 
 pub use checked::{Checked, check};
 pub use entry::ShapeEntry;

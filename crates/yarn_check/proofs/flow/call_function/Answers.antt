@@ -16,5 +16,5 @@ returns-in-Some c =
     (λ can. (place : ℕ) → take_kinds c.args.count [] old (λ kinds rest. on_known (kind_called c.args.names.now c.args.name.now kinds) (λ k. goes_on place (Of k ∷ rest) c.args.stack.now.pending)) ≡ (if can then goes_on place (stack_of c.push_result.new.stack).entries c.push_result.new.stack.pending else None))
     c.push_result.result c.push_result.ensures
     (λ can h place.
-        takes (λ kinds rest. on_known (kind_called c.args.names.now c.args.name.now kinds) (λ k. goes_on place (Of k ∷ rest) c.args.stack.now.pending))
-        ∙ ap (λ o. on_known o (λ k. goes_on place (Of k ∷ next) c.args.stack.now.pending)) (sym same) ∙ h place)
+    takes (λ kinds rest. on_known (kind_called c.args.names.now c.args.name.now kinds) (λ k. goes_on place (Of k ∷ rest) c.args.stack.now.pending))
+    ∙ ap (λ o. on_known o (λ k. goes_on place (Of k ∷ next) c.args.stack.now.pending)) (sym same) ∙ h place)

@@ -20,8 +20,8 @@ returns-in-Alone-clause-whole c =
     (λ r. stepped_from (place + 1) (stepped_of r c.run.new.cells.items) ≡ stepped_from (place + 1) (step p i place old (get_or old place Nothing)))
     c.run.result c.run.ensures.whole
     (λ r h.
-        ap (stepped_from (place + 1)) h ∙ run_alike place s (flow p i place s.entries s.pending) mid old c.take_out.ensures.left
-        ∙ ap (λ k. stepped_from (place + 1) (step p i place old k)) (sym came))
+    ap (stepped_from (place + 1)) h ∙ run_alike place s (flow p i place s.entries s.pending) mid old c.take_out.ensures.left
+    ∙ ap (λ k. stepped_from (place + 1) (step p i place old k)) (sym came))
 
 pub returns-in-Nothing-clause-whole : goal.returns-in-Nothing-clause-whole
 returns-in-Nothing-clause-whole c =
