@@ -19,3 +19,9 @@ pub mod Comes
 pub mod Outcomes
 pub mod Rebuilding
 pub mod Beginnings
+pub mod CellLists
+pub mod Taken
+pub mod NameLemmas
+pub mod Alike
+pub mod ToldLemmas
+pub mod JudgeLemmas

@@ -6,3 +6,7 @@ pub mod PassLaws
 pub mod Shaped
 pub mod Fits
 pub mod Laws
+pub mod Views
+pub mod NameMaps
+pub mod Told
+pub mod Missing
