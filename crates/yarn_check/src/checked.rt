@@ -74,8 +74,7 @@ fn judge(alloc: Global, program: &Program) -> Result<(), CheckFault>
     requires { HasFields program.now }
     ensures { Judges program.now result }
 {
-    let fault = first_fault(alloc, program);
-    fault
+    first_fault(alloc, program)
 }
 
 // The first look at all instructions, and then the pass over all nodes.

@@ -1,4 +1,4 @@
-//! When a program is valid, and what holds of the states of its runs.
+//! When a program is valid, the checker that tells it, and what holds of the states of its runs.
 #![tactic(auto)]
 
 mod checked;
