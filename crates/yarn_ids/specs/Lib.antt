@@ -1,2 +1,4 @@
 pub mod Base
 pub mod BaseLaws
+pub mod Tagged
+pub mod Sets

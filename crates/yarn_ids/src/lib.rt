@@ -2,9 +2,15 @@
 #![tactic(auto)]
 
 mod base;
+mod fault;
 pub mod laws;
+mod sets;
+mod spoken;
+mod tag;
 
 pub use base::base_of;
+pub use fault::TagFault;
+pub use tag::tag_file;
 
 #[cfg(test)]
 mod tests;
