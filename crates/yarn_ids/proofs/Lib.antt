@@ -1,3 +1,4 @@
+pub mod SpokenLemmas
 pub mod AcceptedTexts
 pub mod BaseLemmas
 pub mod PieceTexts

@@ -60,16 +60,16 @@ is_own id (Some own) = bytes_eq own id
 abbrev pub has_id : List Spoken → List ℕ → Bool
 has_id said id = list_any (λ s. is_own id s.id) said
 
--- the first number from that one on whose id stands nowhere in the file; at most 268,435,455
-pub record IsNextFree (said : List Spoken) (next n : ℕ) : Type 0 where
+-- the first number from that one on whose id isn't taken; at most 268,435,455
+pub record IsNextFree (taken : List ℕ → Bool) (next n : ℕ) : Type 0 where
   pub rises : next ≤ n
   pub fits : n ≤ 268435455
-  pub free : has_id said (id_of n) ≡ false
-  pub skipped : (m : ℕ) → next ≤ m → m < n → has_id said (id_of m) ≡ true
+  pub free : taken (id_of n) ≡ false
+  pub skipped : (m : ℕ) → next ≤ m → m < n → taken (id_of m) ≡ true
 
--- the ids of all these numbers stand in the file
-abbrev pub NoneFree : List Spoken → ℕ → Type 0
-NoneFree said next = (m : ℕ) → next ≤ m → m ≤ 268435455 → has_id said (id_of m) ≡ true
+-- the ids of all these numbers are taken
+abbrev pub NoneFree : (List ℕ → Bool) → ℕ → Type 0
+NoneFree taken next = (m : ℕ) → next ≤ m → m ≤ 268435455 → taken (id_of m) ≡ true
 
 -- the text of a line that is said, or of an option, ends there before its comment
 pub record IsEnd (text : List ℕ) (end : ℕ) : Type 0 where
@@ -81,34 +81,42 @@ abbrev pub tag_before : List ℕ → ℕ → List ℕ
 tag_before rest n = codes " #" ++ (id_of n ++ (if begins_with (codes "//") rest then 32 ∷ [] else []))
 
 -- what the bytes behind a place become, where these lines stand there and the next number is that one or a later one: each
--- line without an id has a tag where its text ends, and all other bytes stay
-pub data Becomes (bytes : List ℕ) (said : List Spoken) : ℕ → ℕ → List RawLine → List ℕ → Type 0 where
-  rest : {next at : ℕ} → Becomes bytes said next at [] (drop at bytes)
-  kept : {next at : ℕ} {line : RawLine} {lines : List RawLine} {out : List ℕ} → lacks said line.number ≡ false →
-      Becomes bytes said next at lines out → Becomes bytes said next at (line ∷ lines) out
-  tagged : {next at : ℕ} {line : RawLine} {lines : List RawLine} {out : List ℕ} (n end : ℕ) → lacks said line.number ≡ true →
-      IsNextFree said next n → IsEnd line.text end → Becomes bytes said (n + 1) (line.at + end) lines out →
-      Becomes bytes said next at (line ∷ lines) (slice_range bytes at (line.at + end) ++ (tag_before (drop end line.text) n ++ out))
+-- line that lacks an id has a tag where its text ends, and all other bytes stay
+pub data Becomes (bytes : List ℕ) (lacking : ℕ → Bool) (taken : List ℕ → Bool) : ℕ → ℕ → List RawLine → List ℕ → Type 0 where
+  rest : {next at : ℕ} → Becomes bytes lacking taken next at [] (drop at bytes)
+  kept : {next at : ℕ} {line : RawLine} {lines : List RawLine} {out : List ℕ} → lacking line.number ≡ false →
+      Becomes bytes lacking taken next at lines out → Becomes bytes lacking taken next at (line ∷ lines) out
+  tagged : {next at : ℕ} {line : RawLine} {lines : List RawLine} {out : List ℕ} (n end : ℕ) → lacking line.number ≡ true →
+      IsNextFree taken next n → IsEnd line.text end → Becomes bytes lacking taken (n + 1) (line.at + end) lines out →
+      Becomes bytes lacking taken next at (line ∷ lines) (slice_range bytes at (line.at + end) ++ (tag_before (drop end line.text) n ++ out))
 
--- a line without an id for which no number is left
-pub data NeedsMore (said : List Spoken) : ℕ → List RawLine → Type 0 where
-  here : {next : ℕ} {line : RawLine} {lines : List RawLine} → lacks said line.number ≡ true → NoneFree said next →
-      NeedsMore said next (line ∷ lines)
-  past_kept : {next : ℕ} {line : RawLine} {lines : List RawLine} → lacks said line.number ≡ false →
-      NeedsMore said next lines → NeedsMore said next (line ∷ lines)
-  past_tagged : {next : ℕ} {line : RawLine} {lines : List RawLine} (n : ℕ) → lacks said line.number ≡ true →
-      IsNextFree said next n → NeedsMore said (n + 1) lines → NeedsMore said next (line ∷ lines)
+-- a line that lacks an id, and no number is left for it
+pub data NeedsMore (lacking : ℕ → Bool) (taken : List ℕ → Bool) : ℕ → List RawLine → Type 0 where
+  here : {next : ℕ} {line : RawLine} {lines : List RawLine} → lacking line.number ≡ true → NoneFree taken next →
+      NeedsMore lacking taken next (line ∷ lines)
+  past_kept : {next : ℕ} {line : RawLine} {lines : List RawLine} → lacking line.number ≡ false →
+      NeedsMore lacking taken next lines → NeedsMore lacking taken next (line ∷ lines)
+  past_tagged : {next : ℕ} {line : RawLine} {lines : List RawLine} (n : ℕ) → lacking line.number ≡ true →
+      IsNextFree taken next n → NeedsMore lacking taken (n + 1) lines → NeedsMore lacking taken next (line ∷ lines)
 
 -- the place of what is too long: the file with line 0, and else the first line
 abbrev pub too_long : List ℕ → Option ℕ
 too_long bytes = if nat_lt 4194304 (length bytes) then Some 0 else first_long bytes
 
+-- the bytes are these with tags, the first number being that one or a later one
+abbrev pub Tagged : List ℕ → List Spoken → ℕ → List ℕ → Type 0
+Tagged bytes said start out = Becomes bytes (lacks said) (has_id said) start 0 (lines_of bytes).lines out
+
+-- numbers are used up
+abbrev pub IsUsedUp : List ℕ → List Spoken → ℕ → Type 0
+IsUsedUp bytes said start = NeedsMore (lacks said) (has_id said) start (lines_of bytes).lines
+
 -- what is answered for the bytes of a file with these lines and options
 abbrev pub IsTagged : List ℕ → List Spoken → ℕ → Result (List ℕ) TagFault → Type 0
-IsTagged bytes said start (Ok out) = Becomes bytes said start 0 (lines_of bytes).lines out × (too_long out ≡ None)
+IsTagged bytes said start (Ok out) = Tagged bytes said start out × (too_long out ≡ None)
 IsTagged bytes said start (Err (Refused refusal)) = ⊥
-IsTagged bytes said start (Err IdsUsedUp) = NeedsMore said start (lines_of bytes).lines
-IsTagged bytes said start (Err (TooLong line)) = (out : List ℕ) × (Becomes bytes said start 0 (lines_of bytes).lines out × (too_long out ≡ Some line))
+IsTagged bytes said start (Err IdsUsedUp) = IsUsedUp bytes said start
+IsTagged bytes said start (Err (TooLong line)) = (out : List ℕ) × (Tagged bytes said start out × (too_long out ≡ Some line))
 IsTagged bytes said start (Err Memory) = ⊤
 
 -- the file is read, and tagged

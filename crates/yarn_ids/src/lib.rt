@@ -7,6 +7,7 @@ pub mod laws;
 mod sets;
 mod spoken;
 mod tag;
+mod tagger;
 
 pub use base::base_of;
 pub use fault::TagFault;
