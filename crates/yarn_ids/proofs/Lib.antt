@@ -1,3 +1,5 @@
+pub mod PassLemmas
+pub mod SetLemmas
 pub mod SpokenLemmas
 pub mod AcceptedTexts
 pub mod BaseLemmas

@@ -4,7 +4,6 @@ use Rattle.std.specs.Str.{bytes_eq}
 use Rattle.std.specs.BTreeMap.{get, get_by}
 use Rattle.std.specs.Cmp.Lexicographic.{slice_cmp}
 use Rattle.std.specs.Ordering.{nat_cmp}
-use Rattle.std.specs.declared.vec.Vec.{Vec}
 use Rattle.yarn_lines.specs.declared.line.RawLine.{RawLine}
 use Rattle.yarn_ids.specs.declared.sets.Ids.{Ids}
 use Rattle.yarn_ids.specs.declared.sets.LineSet.{LineSet}
@@ -41,7 +40,7 @@ pub record IsPut (bytes : List ℕ) (line : RawLine) (n at : ℕ) (old : List �
 -- what stands behind a line, and what the lines behind it make of that
 pub record Passes (bytes : List ℕ) (lacking : ℕ → Bool) (taken : List ℕ → Bool) (line : RawLine) (before after : Tagger) : Type 0 where
   pub becomes : (lines : List RawLine) (more : List ℕ) → Becomes bytes lacking taken after.next after.at lines more →
-      (whole : List ℕ) × (Becomes bytes lacking taken before.next before.at (line ∷ lines) whole × (after.out.items ++ more ≡ before.out.items ++ whole))
+      (whole : List ℕ) × (Becomes bytes lacking taken before.next before.at (line ∷ lines) whole × (after.out ++ more ≡ before.out ++ whole))
   pub needs : (lines : List RawLine) → NeedsMore lacking taken after.next lines → NeedsMore lacking taken before.next (line ∷ lines)
 
 -- a line is passed, or no number is left for it
@@ -50,7 +49,7 @@ IsPassed bytes lacking taken line before after (Ok _) = Passes bytes lacking tak
 IsPassed bytes lacking taken line before after (Err IdsUsedUp) = (lines : List RawLine) → NeedsMore lacking taken before.next (line ∷ lines)
 IsPassed bytes lacking taken line before after (Err Memory) = ⊤
 IsPassed bytes lacking taken line before after (Err (Refused refusal)) = ⊥
-IsPassed bytes lacking taken line before after (Err (TooLong line)) = ⊥
+IsPassed bytes lacking taken line before after (Err (TooLong number)) = ⊥
 
 -- what all lines make of the bytes behind the start
 abbrev pub IsWritten : List ℕ → (ℕ → Bool) → (List ℕ → Bool) → ℕ → List RawLine → Result (List ℕ) TagFault → Type 0

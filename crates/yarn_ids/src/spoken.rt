@@ -97,7 +97,7 @@ fn push_spoken(said: &mut Vec<Spoken>, text: &LineText) -> Result<(), Memory>
 }
 
 fn copy_of(id: Option<&Text>) -> Result<Option<Text>, Memory>
-    ensures { IfOk result (λ copy. copy ≡ option_copied id) }
+    ensures { IfOk result (λ copy. copy ≡ option_copied id.entry) }
 {
     match id {
         Some(id) => Ok(Some(id.copy()?)),

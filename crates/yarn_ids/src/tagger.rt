@@ -6,7 +6,7 @@ ghost use Rattle.yarn_ids.specs.Tagged.{digit, digits, id_of, IsNextFree, NoneFr
 use crate::TagFault;
 use crate::sets::{Ids, LineSet};
 use std::alloc::Global;
-use yarn_base::{List, Memory, Text};
+use yarn_base::{List, Memory};
 use yarn_lines::{Lines, RawLine};
 use yarn_tree::text_end;
 
@@ -16,7 +16,7 @@ const LAST_NUMBER: u32 = 268435455;
 /// What is written so far, the place of the file up to which it is, and the next number or one before it.
 #[derive(Drop)]
 struct Tagger {
-    out: Vec<u8>,
+    out: List<u8>,
     at: usize,
     next: u32,
 }
@@ -34,7 +34,7 @@ pub(crate) fn write_lines(
 {
     let mut lines = lines;
     let mut tagger = Tagger {
-        out: Vec::new(alloc),
+        out: List::new(alloc),
         at: 0,
         next: start,
     };
@@ -45,7 +45,7 @@ pub(crate) fn write_lines(
         return Err(TagFault::Memory);
     };
     tagger.out.extend_from_slice(rest)?;
-    Ok(List::from_vec(tagger.out))
+    Ok(tagger.out)
 }
 
 impl Tagger {
@@ -125,13 +125,13 @@ fn digit(d: u32) -> u8
 
 // Writes the bytes behind that place up to the end of the line's text, and a tag; the place of that end.
 fn put_tag(
-    out: &mut Vec<u8>,
+    out: &mut List<u8>,
     bytes: &[u8],
     at: usize,
     line: &RawLine,
     number: u32,
 ) -> Result<usize, Memory>
-    ensures { IfOk result (λ behind. IsPut bytes.now line.now number at out.old.items behind out.new.items) }
+    ensures { IfOk result (λ behind. IsPut bytes.now line.now number at out.old behind out.new) }
 {
     let end = text_end(&line.text);
     let behind = line.at.checked_add(end).ok_or(Memory)?;
@@ -146,13 +146,13 @@ fn put_tag(
     Ok(behind)
 }
 
-fn push_tag(out: &mut Vec<u8>, rest: &[u8], number: u32) -> Result<(), Memory>
-    ensures { OnOk result (out.new.items ≡ out.old.items ++ tag_before rest.now number) }
+fn push_tag(out: &mut List<u8>, rest: &[u8], number: u32) -> Result<(), Memory>
+    ensures { OnOk result (out.new ≡ out.old ++ tag_before rest.now number) }
 {
     out.extend_from_slice(b" #")?;
     out.extend_from_slice(&id_of(number))?;
     if rest.starts_with(b"//") {
-        out.push(b' ')?;
+        out.extend_from_slice(b" ")?;
     }
     Ok(())
 }
