@@ -14,4 +14,6 @@ pub use fault::TagFault;
 pub use tag::tag_file;
 
 #[cfg(test)]
+mod tag_tests;
+#[cfg(test)]
 mod tests;
