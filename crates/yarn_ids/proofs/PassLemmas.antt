@@ -25,12 +25,16 @@ module _ (bytes : List ℕ) (lacking : ℕ → Bool) (taken : List ℕ → Bool)
       let tag : List ℕ = tag_before (drop put.end line.text) n in
       let front : List ℕ = slice_range bytes before.at (line.at + put.end) in
       record {
-        becomes = λ lines more b. (front ++ (tag ++ more), (
+        becomes = λ lines more b. (
+          front ++ (tag ++ more),
+          (
             tagged n put.end is free put.ends
                 (subst (λ (m : ℕ). Becomes bytes lacking taken m (line.at + put.end) lines more) next
                 (subst (λ (m : ℕ). Becomes bytes lacking taken after.next m lines more) (at ∙ put.to) b)),
             ap (λ (l : List ℕ). l ++ more) put.written ∙ append_assoc before.out (front ++ tag) more
-            ∙ ap (λ (l : List ℕ). before.out ++ l) (append_assoc front tag more)));
+                ∙ ap (λ (l : List ℕ). before.out ++ l) (append_assoc front tag more),
+          ),
+        );
         needs = λ lines m. past_tagged n is free (subst (λ (k : ℕ). NeedsMore lacking taken k lines) next m);
       }
 

@@ -15,6 +15,7 @@ use yarn_tree::{File, ProjectFault, read_file};
 
 /// The most bytes of a file, and of a line before its LF (docs/language.md, Limits).
 const LARGEST_FILE: usize = 4194304;
+
 const LONGEST_LINE: usize = 65536;
 
 const BYTE_ORDER_MARK: &[u8] = b"\xEF\xBB\xBF";
@@ -31,12 +32,7 @@ pub fn tag_file(alloc: Global, file: &SourceFile, start: u32) -> Result<List<u8>
     }
 }
 
-fn tag_tree(
-    alloc: Global,
-    bytes: &List<u8>,
-    tree: &File,
-    start: u32,
-) -> Result<List<u8>, TagFault>
+fn tag_tree(alloc: Global, bytes: &List<u8>, tree: &File, start: u32) -> Result<List<u8>, TagFault>
     ensures { IsTagged bytes.now (spoken_in tree.now) start result }
 {
     let said = spoken_in(alloc, tree)?;

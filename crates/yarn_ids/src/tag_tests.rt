@@ -20,7 +20,10 @@ fn told(alloc: Global, file: &[u8], start: u32) -> Result<Text, Memory> {
 
 fn fault_text(alloc: Global, fault: &TagFault) -> Result<Text, Memory> {
     let text = match fault {
-        TagFault::Refused(refusal) => format!(in alloc; "{:?} {}", refusal.kind, refusal.place.line)?,
+        TagFault::Refused(refusal) => format!(in alloc;
+            "{:?} {}",
+            refusal.kind, refusal.place.line
+        )?,
         TagFault::IdsUsedUp => format!(in alloc; "IdsUsedUp")?,
         TagFault::TooLong(line) => format!(in alloc; "TooLong {line}")?,
         TagFault::Memory => format!(in alloc; "Memory")?,
@@ -63,11 +66,7 @@ fn files_are_tagged(rt: HostRuntime) -> Result<(), Fail> {
         ),
         (268435455, b"title: A\n---\nHello\nYou\n===\n", "IdsUsedUp"),
         (268435456, b"title: A\n---\nHello\n===\n", "IdsUsedUp"),
-        (
-            268435456,
-            b"title: A\n---\n===\n",
-            "title: A\n---\n===\n",
-        ),
+        (268435456, b"title: A\n---\n===\n", "title: A\n---\n===\n"),
         (0, b"title: A\n---\nHello\n", "BadStructure 4"),
     ];
     for (at, case) in cases.iter().enumerate() {
