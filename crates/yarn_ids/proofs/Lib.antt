@@ -1,6 +1,3 @@
-pub mod PassLemmas
-pub mod SetLemmas
-pub mod SpokenLemmas
 pub mod AcceptedTexts
 pub mod BaseLemmas
 pub mod PieceTexts

@@ -1,4 +1,2 @@
 pub mod Base
 pub mod BaseLaws
-pub mod Tagged
-pub mod Sets

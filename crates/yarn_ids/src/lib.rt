@@ -2,18 +2,9 @@
 #![tactic(auto)]
 
 mod base;
-mod fault;
 pub mod laws;
-mod sets;
-mod spoken;
-mod tag;
-mod tagger;
 
 pub use base::base_of;
-pub use fault::TagFault;
-pub use tag::tag_file;
 
-#[cfg(test)]
-mod tag_tests;
 #[cfg(test)]
 mod tests;

@@ -1,7 +1,0 @@
-use Rattle.std.proofs.Common.{◌≡◌, ℕ, take}
-use Rattle.yarn_ids.specs.Sets.{has}
-use Rattle.yarn_ids.specs.Tagged.{has_id}
-use Rattle.yarn_ids.proofs.tag.ids_in.Given as goal
-
-abbrev pub invariant-loop-spoken : goal.invariant-loop-spoken
-invariant-loop-spoken l = has l.ids ≡ has_id (take l.spoken-index l.said)

@@ -1,7 +1,0 @@
-use Rattle.std.proofs.Common.{◌≡◌, ℕ, take}
-use Rattle.yarn_ids.specs.Sets.{has_line}
-use Rattle.yarn_ids.specs.Tagged.{lacks}
-use Rattle.yarn_ids.proofs.tag.lacking_in.Given as goal
-
-abbrev pub invariant-loop-spoken : goal.invariant-loop-spoken
-invariant-loop-spoken l = has_line l.lines ≡ lacks (take l.spoken-index l.said)
