@@ -1,3 +1,4 @@
 pub mod PassLemmas
 pub mod SetLemmas
 pub mod SpokenLemmas
+pub mod TagLemmas
