@@ -1,4 +1,4 @@
-use Rattle.std.proofs.Common.{◌≡◌, ◌+◌, ◌≤◌, length, drop, slice_range, ap, sym, subst, ◌∙◌, arith, rules}
+use Rattle.std.proofs.Common.{◌≡◌, ℕ, ◌+◌, ◌<◌, Option, SomeIff, drop, ap, sym, subst, ◌∙◌}
 use Rattle.yarn_tag.proofs.TagLemmas.{tag-put, range-to_end}
 use Rattle.yarn_tag.proofs.tagger.put_tag.Goals as goal
 
@@ -6,7 +6,8 @@ pub returns : goal.returns
 returns c =
     let end = c.text_end-end.result in
     let text = c.args.line.now.text in
-    let same : c.in_ok-behind.behind ≡ c.args.line.now.at + end = rw c.in_ok-behind.ensures.ok_part at c.checked_add.ensures in
+    let same : c.in_ok-behind.behind ≡ c.args.line.now.at + end = 
+        (subst (λ (o : Option ℕ). SomeIff o (c.args.line.now.at + end < 18446744073709551616) (c.args.line.now.at + end)) c.in_ok-behind.ensures.ok_part c.checked_add.ensures).1 in
     let whole : c.as_bytes.result.now ≡ text = c.as_bytes.ensures.value ∙ c.as_str.ensures.value in
     let found = c.in-Some-get.ensures.lookup.0 in
     record {
