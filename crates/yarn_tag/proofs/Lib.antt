@@ -2,3 +2,4 @@ pub mod PassLemmas
 pub mod SetLemmas
 pub mod SpokenLemmas
 pub mod TagLemmas
+pub mod SaidLemmas

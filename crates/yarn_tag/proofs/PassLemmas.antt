@@ -3,6 +3,7 @@ use Rattle.std.proofs.Common.{◌≡◌, ℕ, ◌+◌, List, [], ◌∷◌, ◌+
 use Rattle.yarn_base.specs.declared.SourceFile.{SourceFile}
 use Rattle.yarn_lines.specs.declared.line.RawLine.{RawLine}
 use Rattle.yarn_lines.specs.Lines.{lines_of}
+use Rattle.yarn_lines.specs.Taking.{Takes}
 use Rattle.yarn_tree.specs.declared.tree.File.{File}
 use Rattle.yarn_tree.specs.Reading.{IsFileRead, file_reading_of}
 use Rattle.yarn_tag.specs.declared.spoken.Spoken.{Spoken}
@@ -45,6 +46,22 @@ module _ (bytes : List ℕ) (lacking : ℕ → Bool) (taken : List ℕ → Bool)
   becomes-on start all line lines before after passes so more b =
       let p = passes.becomes lines more b in
       subst (λ (l : List ℕ). Becomes bytes lacking taken start 0 all l) (sym p.1.1) (so p.0 p.1.0)
+
+  -- where no line is left, the rest of the bytes follows
+  pub becomes-all : (start at next : ℕ) (all lines : List RawLine) (out new : List ℕ) → lines ≡ [] → new ≡ out ++ drop at bytes →
+      ((more : List ℕ) → Becomes bytes lacking taken next at lines more → Becomes bytes lacking taken start 0 all (out ++ more)) →
+      Becomes bytes lacking taken start 0 all new
+  becomes-all start at next all lines out new none is so =
+      subst (λ (l : List ℕ). Becomes bytes lacking taken start 0 all l) (sym is)
+          (so (drop at bytes) (subst (λ (ls : List RawLine). Becomes bytes lacking taken next at ls (drop at bytes)) (sym none) rest))
+
+pub none-left : (before after : List RawLine) (taken : Option RawLine) → Takes before (Ok taken) after → taken ≡ None → before ≡ []
+none-left before after None takes is = takes.0
+none-left before after (Some line) takes is = absurd (cc)
+
+pub none-if_not-some : {A : Type 0} (o : Option A) → ((a : A) → o ≡ Some a → ⊥) → o ≡ None
+none-if_not-some None no = refl
+none-if_not-some (Some a) no = absurd (no a refl)
 
 pub tagged-within : (bytes : List ℕ) (said : List Spoken) (start : ℕ) (out : List ℕ) (answer : Result (List ℕ) TagFault) →
     Becomes bytes (lacks said) (has_id said) start 0 (lines_of bytes).lines out → IsWithin out answer → IsTagged bytes said start answer
