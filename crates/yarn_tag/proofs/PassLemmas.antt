@@ -59,10 +59,6 @@ pub none-left : (before after : List RawLine) (taken : Option RawLine) → Takes
 none-left before after None takes is = takes.0
 none-left before after (Some line) takes is = absurd (cc)
 
-pub none-if_not-some : {A : Type 0} (o : Option A) → ((a : A) → o ≡ Some a → ⊥) → o ≡ None
-none-if_not-some None no = refl
-none-if_not-some (Some a) no = absurd (no a refl)
-
 pub tagged-within : (bytes : List ℕ) (said : List Spoken) (start : ℕ) (out : List ℕ) (answer : Result (List ℕ) TagFault) →
     Becomes bytes (lacks said) (has_id said) start 0 (lines_of bytes).lines out → IsWithin out answer → IsTagged bytes said start answer
 tagged-within bytes said start out (Ok same) b w = (subst (λ (l : List ℕ). Becomes bytes (lacks said) (has_id said) start 0 (lines_of bytes).lines l) (sym w.0) b, ap too_long w.0 ∙ w.1)

@@ -1,9 +1,8 @@
-use Rattle.std.proofs.Common.{◌≡◌, ◌<◌, List, take, length, ap, sym, ◌∙◌, arith}
+use Rattle.std.proofs.Common.{◌≡◌, ◌<◌, ℕ, List, Some, take, length, ap, sym, ◌∙◌, arith}
 use Rattle.yarn_tag.specs.declared.spoken.Spoken.{Spoken}
 use Rattle.yarn_tag.specs.declared.sets.Ids.{Ids}
 use Rattle.yarn_tag.specs.Sets.{has, and_id}
 use Rattle.yarn_tag.specs.Tagged.{has_id}
-use Rattle.yarn_tag.proofs.PassLemmas.{none-if_not-some}
 use Rattle.yarn_tag.proofs.SaidLemmas.{took, ids-with, ids-without}
 use Rattle.yarn_tag.proofs.tag.ids_in.Goals.{in-Some+in_ok-insert, in_default}
 use Rattle.yarn_tag.proofs.tag.ids_in.Goals as goal
@@ -18,8 +17,8 @@ loop-spoken-preserved c =
     elim c.match-spoken.branch [
     | in-Some+in_ok-insert w ↦
         ap (λ (x : Ids). has x) w.ids-is ∙ w.in_ok-insert.ensures ∙ ap (and_id w.as_str.result.now) c.loop-spoken.invariant
-        ∙ ids-with (take at said) s w.as_str.result.now (let h = w.in-Some.is in let k = w.as_str.ensures.value in ?) ∙ more
+        ∙ ids-with (take at said) s w.as_str.result.now (w.in-Some.is ∙ ap (λ (i : List ℕ). Some i) (sym w.as_str.ensures.value)) ∙ more
     | in_default w ↦
         ap (λ (x : Ids). has x) w.ids-is ∙ c.loop-spoken.invariant
-        ∙ ids-without (take at said) s (let h = w.in_default.is in let k = w.in_default.not-Some in ?) ∙ more
+        ∙ ids-without (take at said) s w.in_default.is ∙ more
     ]

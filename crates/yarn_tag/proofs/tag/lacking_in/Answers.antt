@@ -1,4 +1,4 @@
-use Rattle.std.proofs.Common.{◌≡◌, ◌<◌, List, take, length, ap, sym, ◌∙◌, arith}
+use Rattle.std.proofs.Common.{◌≡◌, ◌<◌, List, take, length, ap, sym, ◌∙◌, arith, Bool, not}
 use Rattle.yarn_tag.specs.declared.spoken.Spoken.{Spoken}
 use Rattle.yarn_tag.specs.declared.sets.LineSet.{LineSet}
 use Rattle.yarn_tag.specs.Sets.{has_line, and_line}
@@ -17,8 +17,8 @@ loop-spoken-preserved c =
     elim c.if-is_none.branch [
     | then-is_none+in_ok-insert w ↦
         ap (λ (x : LineSet). has_line x) w.lines-is ∙ w.in_ok-insert.ensures ∙ ap (and_line s.line) c.loop-spoken.invariant
-        ∙ lacks-with (take at said) s (sym c.is_none.ensures ∙ w.if-is_none.true) ∙ more
+        ∙ lacks-with (take at said) s (ap not c.is_none.ensures ∙ ap (λ (b : Bool). not (not b)) w.if-is_none.true) ∙ more
     | else-is_none w ↦
         ap (λ (x : LineSet). has_line x) w.lines-is ∙ c.loop-spoken.invariant
-        ∙ lacks-without (take at said) s (sym c.is_none.ensures ∙ w.if-is_none.false) ∙ more
+        ∙ lacks-without (take at said) s (ap not c.is_none.ensures ∙ ap (λ (b : Bool). not (not b)) w.if-is_none.false) ∙ more
     ]

@@ -15,6 +15,6 @@ returns c =
       ends = record { of_line = c.text_end-end.ensures.line; of_offer = c.text_end-end.ensures.offer };
       to = same;
       written = tag-put c.args.out.now c.args.bytes.now text c.in-Some-get.rest.now c.in-Some.before.now c.extend_from_slice.new.self c.push_tag.new.out
-          c.args.number c.args.at end c.in_ok-behind.behind (c.args.line.now.at + end) same c.in-Some.ensures.lookup.0.1.1.0 c.in_ok-extend_from_slice.ensures.ok
-          (found.1.1.0 ∙ range-to_end c.as_bytes.result.now end found.0 ∙ ap (drop end) whole) c.in_ok-push_tag.ensures;
+          c.args.number c.args.at end c.in_ok-behind.behind (c.args.line.now.at + end) same c.in-Some.ensures.lookup.0.2 c.in_ok-extend_from_slice.ensures.ok
+          (found.2 ∙ range-to_end c.as_bytes.result.now end found.0 ∙ ap (drop end) whole) c.in_ok-push_tag.ensures;
     }
