@@ -53,7 +53,7 @@ module _ (bytes : List ℕ) (lacking : ℕ → Bool) (taken : List ℕ → Bool)
       Becomes bytes lacking taken start 0 all new
   becomes-all start at next all lines out new none is so =
       subst (λ (l : List ℕ). Becomes bytes lacking taken start 0 all l) (sym is)
-          (so (drop at bytes) (subst (λ (ls : List RawLine). Becomes bytes lacking taken next at ls (drop at bytes)) (sym none) rest))
+      (so (drop at bytes) (subst (λ (ls : List RawLine). Becomes bytes lacking taken next at ls (drop at bytes)) (sym none) rest))
 
 pub none-left : (before after : List RawLine) (taken : Option RawLine) → Takes before (Ok taken) after → taken ≡ None → before ≡ []
 none-left before after None takes is = takes.0

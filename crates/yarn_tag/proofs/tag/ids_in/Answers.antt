@@ -15,10 +15,10 @@ loop-spoken-preserved c =
     let less : at < length said = let h = c.loop-spoken-test.true in let k = c.loop-spoken.auto.spoken-index-end in omega arith in
     let more = ap (λ (l : List Spoken). has_id l) (sym (took said at s less c.spoken-item.is)) in
     elim c.match-spoken.branch [
-    | in-Some+in_ok-insert w ↦
-        ap (λ (x : Ids). has x) w.ids-is ∙ w.in_ok-insert.ensures ∙ ap (and_id w.as_str.result.now) c.loop-spoken.invariant
-        ∙ ids-with (take at said) s w.as_str.result.now (w.in-Some.is ∙ ap (λ (i : List ℕ). Some i) (sym w.as_str.ensures.value)) ∙ more
-    | in_default w ↦
-        ap (λ (x : Ids). has x) w.ids-is ∙ c.loop-spoken.invariant
-        ∙ ids-without (take at said) s w.in_default.is ∙ more
+      | in-Some+in_ok-insert w ↦
+          ap (λ (x : Ids). has x) w.ids-is ∙ w.in_ok-insert.ensures ∙ ap (and_id w.as_str.result.now) c.loop-spoken.invariant
+          ∙ ids-with (take at said) s w.as_str.result.now (w.in-Some.is ∙ ap (λ (i : List ℕ). Some i) (sym w.as_str.ensures.value)) ∙ more
+      | in_default w ↦
+          ap (λ (x : Ids). has x) w.ids-is ∙ c.loop-spoken.invariant
+          ∙ ids-without (take at said) s w.in_default.is ∙ more
     ]

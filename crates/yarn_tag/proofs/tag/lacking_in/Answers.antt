@@ -15,10 +15,10 @@ loop-spoken-preserved c =
     let less : at < length said = let h = c.loop-spoken-test.true in let k = c.loop-spoken.auto.spoken-index-end in omega arith in
     let more = ap (λ (l : List Spoken). lacks l) (sym (took said at s less c.spoken-item.is)) in
     elim c.if-is_none.branch [
-    | then-is_none+in_ok-insert w ↦
-        ap (λ (x : LineSet). has_line x) w.lines-is ∙ w.in_ok-insert.ensures ∙ ap (and_line s.line) c.loop-spoken.invariant
-        ∙ lacks-with (take at said) s (ap not c.is_none.ensures ∙ ap (λ (b : Bool). not (not b)) w.if-is_none.true) ∙ more
-    | else-is_none w ↦
-        ap (λ (x : LineSet). has_line x) w.lines-is ∙ c.loop-spoken.invariant
-        ∙ lacks-without (take at said) s (ap not c.is_none.ensures ∙ ap (λ (b : Bool). not (not b)) w.if-is_none.false) ∙ more
+      | then-is_none+in_ok-insert w ↦
+          ap (λ (x : LineSet). has_line x) w.lines-is ∙ w.in_ok-insert.ensures ∙ ap (and_line s.line) c.loop-spoken.invariant
+          ∙ lacks-with (take at said) s (ap not c.is_none.ensures ∙ ap (λ (b : Bool). not (not b)) w.if-is_none.true) ∙ more
+      | else-is_none w ↦
+          ap (λ (x : LineSet). has_line x) w.lines-is ∙ c.loop-spoken.invariant
+          ∙ lacks-without (take at said) s (ap not c.is_none.ensures ∙ ap (λ (b : Bool). not (not b)) w.if-is_none.false) ∙ more
     ]

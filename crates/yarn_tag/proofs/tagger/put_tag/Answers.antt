@@ -7,7 +7,7 @@ returns c =
     let end = c.text_end-end.result in
     let text = c.args.line.now.text in
     let same : c.in_ok-behind.behind ≡ c.args.line.now.at + end =
-        (subst (λ (o : Option ℕ). SomeIff o (c.args.line.now.at + end < 18446744073709551616) (c.args.line.now.at + end)) c.in_ok-behind.ensures.ok_part c.checked_add.ensures).1 in
+    (subst (λ (o : Option ℕ). SomeIff o (c.args.line.now.at + end < 18446744073709551616) (c.args.line.now.at + end)) c.in_ok-behind.ensures.ok_part c.checked_add.ensures).1 in
     let whole : c.as_bytes.result.now ≡ text = c.as_bytes.ensures.value ∙ c.as_str.ensures.value in
     let found = c.in-Some-get.ensures.lookup.0 in
     record {
