@@ -11,7 +11,7 @@ use Rattle.yarn_tag.specs.declared.fault.TagFault.{TagFault}
 use Rattle.yarn_tag.specs.declared.fault.TagFault.TheVariants.{Refused, IdsUsedUp, TooLong, Memory}
 use Rattle.yarn_tag.specs.declared.tagger.Tagger.{Tagger}
 use Rattle.yarn_tag.specs.Sets.{IsPut, Passes, IsWritten, IsWithin}
-use Rattle.yarn_tag.specs.Tagged.{Becomes, rest, kept, tagged, NeedsMore, here, past_kept, past_tagged, IsNextFree, tag_before, lacks, has_id, spoken_in, too_long, IsTagged, IsTagAnswer}
+use Rattle.yarn_tag.specs.Tagged.{Becomes, rest, kept, tagged, NeedsMore, past_kept, past_tagged, IsNextFree, tag_before, lacks, has_id, spoken_in, too_long, IsTagged, IsTagAnswer}
 
 module _ (bytes : List ℕ) (lacking : ℕ → Bool) (taken : List ℕ → Bool) where
   pub passes-kept : (line : RawLine) (tagger : Tagger) → lacking line.number ≡ false → Passes bytes lacking taken line tagger tagger

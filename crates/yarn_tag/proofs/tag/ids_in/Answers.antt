@@ -1,4 +1,4 @@
-use Rattle.std.proofs.Common.{◌≡◌, ◌<◌, ℕ, List, Some, take, length, ap, sym, ◌∙◌, arith}
+use Rattle.std.proofs.Common.{◌<◌, ℕ, List, Some, take, length, ap, sym, ◌∙◌, arith}
 use Rattle.yarn_tag.specs.declared.spoken.Spoken.{Spoken}
 use Rattle.yarn_tag.specs.declared.sets.Ids.{Ids}
 use Rattle.yarn_tag.specs.Sets.{has, and_id}

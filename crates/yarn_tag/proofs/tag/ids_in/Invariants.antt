@@ -1,4 +1,4 @@
-use Rattle.std.proofs.Common.{◌≡◌, ℕ, take}
+use Rattle.std.proofs.Common.{◌≡◌, take}
 use Rattle.yarn_tag.specs.Sets.{has}
 use Rattle.yarn_tag.specs.Tagged.{has_id}
 use Rattle.yarn_tag.proofs.tag.ids_in.Given as goal

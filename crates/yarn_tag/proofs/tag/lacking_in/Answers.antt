@@ -1,4 +1,4 @@
-use Rattle.std.proofs.Common.{◌≡◌, ◌<◌, List, take, length, ap, sym, ◌∙◌, arith, Bool, not}
+use Rattle.std.proofs.Common.{◌<◌, List, take, length, ap, sym, ◌∙◌, arith, Bool, not}
 use Rattle.yarn_tag.specs.declared.spoken.Spoken.{Spoken}
 use Rattle.yarn_tag.specs.declared.sets.LineSet.{LineSet}
 use Rattle.yarn_tag.specs.Sets.{has_line, and_line}

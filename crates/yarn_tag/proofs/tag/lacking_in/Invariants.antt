@@ -1,4 +1,4 @@
-use Rattle.std.proofs.Common.{◌≡◌, ℕ, take}
+use Rattle.std.proofs.Common.{◌≡◌, take}
 use Rattle.yarn_tag.specs.Sets.{has_line}
 use Rattle.yarn_tag.specs.Tagged.{lacks}
 use Rattle.yarn_tag.proofs.tag.lacking_in.Given as goal

@@ -1,4 +1,4 @@
-use Rattle.std.proofs.Common.{◌≡◌, ℕ, ◌≤◌, sym, ◌∙◌, arith}
+use Rattle.std.proofs.Common.{ℕ, ◌≤◌, arith}
 use Rattle.yarn_tag.specs.Sets.{has}
 use Rattle.yarn_tag.proofs.TagLemmas.{skipped-more}
 use Rattle.yarn_tag.proofs.tagger.next_free.Goals as goal

@@ -1,4 +1,4 @@
-use Rattle.std.proofs.Common.{◌≡◌, [], ◌∷◌, ◌++◌, true, false, ap, sym, ◌∙◌, append-nil}
+use Rattle.std.proofs.Common.{[], ◌∷◌, ◌++◌, true, false, ap, sym, ◌∙◌, append-nil}
 use Rattle.yarn_tag.proofs.TagLemmas.{tag-pushed, begins-as}
 use Rattle.yarn_tag.proofs.tagger.push_tag.Goals as goal
 

@@ -1,4 +1,4 @@
-use Rattle.std.proofs.Common.{◌≡◌, ℕ, ◌+◌, ◌<◌, Option, SomeIff, drop, ap, sym, subst, ◌∙◌}
+use Rattle.std.proofs.Common.{◌≡◌, ℕ, ◌+◌, ◌<◌, Option, SomeIff, drop, ap, subst, ◌∙◌}
 use Rattle.yarn_tag.proofs.TagLemmas.{tag-put, range-to_end}
 use Rattle.yarn_tag.proofs.tagger.put_tag.Goals as goal
 

@@ -1,4 +1,4 @@
-use Rattle.std.proofs.Common.{◌≡◌, ◌++◌, List, ℕ, ap, ◌∙◌}
+use Rattle.std.proofs.Common.{◌++◌, List, ℕ, ap, ◌∙◌}
 use Rattle.yarn_tag.specs.Sets.{has, has_line}
 use Rattle.yarn_tag.proofs.PassLemmas.{becomes-all, none-left}
 use Rattle.yarn_tag.proofs.TagLemmas.{range-to_end}

@@ -1,4 +1,4 @@
-use Rattle.std.proofs.Common.{◌≡◌, ℕ, List, ◌++◌, length}
+use Rattle.std.proofs.Common.{ℕ, List, ◌++◌, length}
 use Rattle.yarn_tag.specs.Sets.{has, has_line}
 use Rattle.yarn_tag.specs.Tagged.{Becomes, NeedsMore}
 use Rattle.yarn_tag.proofs.tagger.write_lines.Given as goal

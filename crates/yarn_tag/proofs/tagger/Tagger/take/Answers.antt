@@ -1,4 +1,4 @@
-use Rattle.std.proofs.Common.{◌≡◌, ap, sym, ◌∙◌, refl, true, false}
+use Rattle.std.proofs.Common.{sym, ◌∙◌, refl}
 use Rattle.yarn_tag.specs.Sets.{has, has_line}
 use Rattle.yarn_tag.specs.Tagged.{here}
 use Rattle.yarn_tag.proofs.PassLemmas.{passes-kept, passes-tagged}
