@@ -1,0 +1,5 @@
+pub mod PassLemmas
+pub mod SetLemmas
+pub mod SpokenLemmas
+pub mod TagLemmas
+pub mod SaidLemmas
