@@ -1,6 +1,6 @@
--- How a line is gone over up to its comment, words of private functions.
-use Rattle.std.specs.Prelude.{ℕ, List, [], ◌∷◌, Bool, true, false, not, ◌&&◌, if◌then◌else◌, nat_eq, codes, Option, Some, None}
-use Rattle.yarn_lines.specs.Lines.{begins_with}
+-- How a line is gone over up to its comment, byte by byte (docs/language.md, Hashtags and comments).
+use Rattle.std.specs.Prelude.{ℕ, List, [], ◌∷◌, length, Bool, true, false, not, ◌&&◌, if◌then◌else◌, nat_eq, codes, Option, Some, None}
+use Rattle.yarn_lines.specs.Lines.{begins_with, without_trailing}
 use Rattle.yarn_items.specs.Text.{begins_pair, is_tag_byte}
 use Rattle.yarn_tree.specs.declared.end.Part.{Part}
 use Rattle.yarn_tree.specs.declared.end.Part.TheVariants.{InText, InPair, InHole, SkippedInHole, Opens, InCondition, SkippedInCondition, Closes, InTag}
@@ -52,3 +52,7 @@ and_front (Some part) rest b = b ∷ rest part
 abbrev pub front_of : Part → List ℕ → List ℕ
 front_of part [] = []
 front_of part (b ∷ bytes) = and_front (part_step part b (b ∷ bytes)) (λ next. front_of next bytes) b
+
+-- the place behind the last byte before the comment that is no blank
+abbrev pub end_of : List ℕ → ℕ
+end_of bytes = length (without_trailing (front_of InText bytes))

@@ -6,7 +6,7 @@ ghost use Rattle.yarn_items.specs.declared.item.Said.{Said as SaidOf};
 ghost use Rattle.yarn_items.specs.Item.{IsLine, IsOffer};
 ghost use Rattle.yarn_items.specs.Text.{begins_pair, is_escaped, is_tag_byte};
 ghost use Rattle.yarn_tree.specs.End.{EndsAt};
-ghost use Rattle.yarn_tree.specs.Scan.{front_of, part_step, text_step, within_text, hole_step, condition_step};
+ghost use Rattle.yarn_tree.specs.Scan.{end_of, front_of, part_step, text_step, within_text, hole_step, condition_step};
 ghost use Rattle.yarn_tree.specs.declared.end.Part.TheVariants as part;
 
 use yarn_base::Text;
@@ -34,6 +34,7 @@ enum Part {
 /// The place behind the last character of a line that is said, or of an option, that is neither blank nor part of its
 /// comment.
 pub fn text_end(text: &Text) -> usize
+    ensures value { result ≡ end_of text.now }
     ensures line { (tokens : Items TokenOf) (said : SaidOf) → IsLine text.now tokens said → EndsAt text.now result }
     ensures offer { (tokens : Items TokenOf) (said : SaidOf) (asked : Maybe ExprOf) → IsOffer text.now tokens said asked → EndsAt text.now result }
 {

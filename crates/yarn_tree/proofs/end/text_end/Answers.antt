@@ -1,9 +1,13 @@
 use Rattle.std.proofs.Common.{◌∙◌, ap, length}
 use Rattle.yarn_lines.specs.Lines.{without_trailing}
 use Rattle.yarn_tree.specs.declared.end.Part.TheVariants.{InText}
-use Rattle.yarn_tree.specs.Scan.{front_of}
+use Rattle.yarn_tree.specs.Scan.{end_of, front_of}
 use Rattle.yarn_tree.proofs.EndLemmas.{line-ends, offer-ends}
 use Rattle.yarn_tree.proofs.end.text_end.Goals as goal
+
+pub returns-clause-value : goal.returns-clause-value
+returns-clause-value c =
+    ap length c.without_blanks_behind.ensures ∙ ap (λ l. length (without_trailing l)) c.before_comment.ensures ∙ ap end_of (c.as_bytes.ensures.value ∙ c.as_str.ensures.value)
 
 pub returns-clause-line : goal.returns-clause-line
 returns-clause-line c = λ tokens said is.
