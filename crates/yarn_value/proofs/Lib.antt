@@ -6,3 +6,4 @@ pub mod MarkLemmas
 pub mod ReadingLemmas
 pub mod DivisionLemmas
 pub mod SpellingLemmas
+pub mod PlainLemmas

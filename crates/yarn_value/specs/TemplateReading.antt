@@ -1,5 +1,5 @@
 -- What reading a template answers, and what it holds on the way.
-use Rattle.std.specs.Prelude.{◌≡◌, ◌<◌, ◌+◌, ℕ, List, ◌++◌, map, Option, Some, None, Result, Ok, Err, ⊤, ◌⊎◌}
+use Rattle.std.specs.Prelude.{◌≡◌, ◌<◌, ◌+◌, ℕ, List, ◌++◌, map, nat_eq, Bool, not, ◌||◌, Option, Some, None, Result, Ok, Err, ⊤, ◌⊎◌}
 use Rattle.yarn_value.specs.Templates.{Mark, Part, Byte, Form, placeholders, size}
 use Rattle.yarn_value.specs.Pieces.{parts_of}
 use Rattle.yarn_value.specs.declared.template.Piece.{Piece}
@@ -19,3 +19,7 @@ IsTooMuch bytes holes marks = (65536 < bytes + size marks) ⊎ (64 < holes + pla
 -- the parts of the pieces, and a run of characters behind them
 abbrev pub built : List Piece → List ℕ → List Part
 built pieces run = parts_of pieces ++ map Byte run
+
+-- the byte is neither a backslash nor `{`, so it stands for itself
+abbrev pub is_plain : ℕ → Bool
+is_plain b = not (nat_eq b 92 || nat_eq b 123)

@@ -1,8 +1,9 @@
 //! Reads templates: marks are taken from the front one by one, counted and put together.
-ghost use Rattle.std.specs.Prelude.{◌≡◌, ◌≤◌, ◌<◌, ◌+◌, ◌++◌, ◌⊎◌, ◌∷◌, [], map, MatchOption, OnOk, IfOk};
+ghost use Rattle.std.specs.Prelude.{◌≡◌, ◌≤◌, ◌<◌, ◌+◌, ◌++◌, ◌⊎◌, ◌∷◌, [], map, true, MatchOption, OnOk, IfOk};
+ghost use Rattle.std.specs.List.{list_all};
 ghost use Rattle.yarn_value.specs.Templates.{template_of, part_of, size, placeholders, Hole};
 ghost use Rattle.yarn_value.specs.TemplateSteps.{marks_in};
-ghost use Rattle.yarn_value.specs.TemplateReading.{Reads, IsTooMuch, built};
+ghost use Rattle.yarn_value.specs.TemplateReading.{Reads, IsTooMuch, built, is_plain};
 ghost use Rattle.yarn_value.specs.TemplateSpelling.{MarksAreSpelled};
 ghost use Rattle.yarn_value.specs.Pieces.{parts_of};
 
@@ -42,6 +43,40 @@ const MOST_BYTES: usize = 65_536;
 /// the text is no template, also above 64 placeholders or 65,536 bytes, each placeholder counted
 /// as three; `Memory` is want of memory.
 pub fn read_template(alloc: Global, text: &Text, holes: u32) -> Result<Template, TemplateFault>
+    ensures parts { Reads result (template_of text.now holes) }
+    ensures holes { IfOk result (λ template. template.holes ≡ holes) }
+{
+    if is_plain(text.as_str().as_bytes()) {
+        read_plain(alloc, text, holes)
+    } else {
+        read_marked(alloc, text, holes)
+    }
+}
+
+// Whether each byte stands for itself.
+fn is_plain(bytes: &[u8]) -> bool
+    ensures { result ≡ list_all is_plain bytes.now }
+{
+    bytes.iter().all(|byte| *byte != b'\\' && *byte != b'{')
+}
+
+// The template of a text in which each byte stands for itself.
+fn read_plain(alloc: Global, text: &Text, holes: u32) -> Result<Template, TemplateFault>
+    requires { list_all is_plain text.now ≡ true }
+    ensures parts { Reads result (template_of text.now holes) }
+    ensures holes { IfOk result (λ template. template.holes ≡ holes) }
+{
+    if text.len() > MOST_BYTES {
+        return Err(TemplateFault::NotTemplate);
+    }
+    let run = text.copy()?;
+    let mut pieces = List::new(alloc);
+    keep(&mut pieces, Piece::Run(run))?;
+    Ok(Template::new(pieces, holes))
+}
+
+// The template of a text that may have marks.
+fn read_marked(alloc: Global, text: &Text, holes: u32) -> Result<Template, TemplateFault>
     ensures parts { Reads result (template_of text.now holes) }
     ensures holes { IfOk result (λ template. template.holes ≡ holes) }
 {

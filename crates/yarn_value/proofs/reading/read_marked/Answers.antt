@@ -2,7 +2,7 @@ use Rattle.std.proofs.Common.{sym, subst, arith}
 use Rattle.yarn_value.specs.Templates.{Plain}
 use Rattle.yarn_value.specs.TemplateSteps.{IsStep}
 use Rattle.yarn_value.proofs.ReadingLemmas.{IsReading, IsReading-start, IsReading-step, IsReading-too_much}
-use Rattle.yarn_value.proofs.reading.read_template.Goals as goal
+use Rattle.yarn_value.proofs.reading.read_marked.Goals as goal
 
 pub loop-first-init : goal.loop-first-init
 loop-first-init c = subst (λ rest. IsReading c.args.holes c.args.text.now rest c.in_ok-builder.builder.pieces c.in_ok-builder.builder.run 0 0) (sym c.as_str-rest.ensures.value)
