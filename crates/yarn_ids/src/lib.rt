@@ -5,6 +5,7 @@ mod base;
 pub mod laws;
 
 pub use base::base_of;
+pub use yarn_tag::{TagFault, tag_file};
 
 #[cfg(test)]
 mod tests;

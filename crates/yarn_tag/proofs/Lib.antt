@@ -3,3 +3,16 @@ pub mod SetLemmas
 pub mod SpokenLemmas
 pub mod TagLemmas
 pub mod SaidLemmas
+pub mod TaggingLemmas
+pub mod TagEnds
+pub mod TagText
+pub mod TagPieces
+pub mod TagLine
+pub mod TagBytes
+pub mod TagCut
+pub mod TagLines
+pub mod TagTree
+pub mod TagItems
+pub mod TagNodes
+pub mod TagFile
+pub mod TagTwice

@@ -1,2 +1,4 @@
 pub mod Tagged
+pub mod TagLaws
 pub mod Sets
+pub mod Tagging

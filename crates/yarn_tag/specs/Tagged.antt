@@ -16,7 +16,8 @@ use Rattle.yarn_tree.specs.declared.tree.File.{File}
 use Rattle.yarn_tree.specs.declared.refusal.ProjectFault.TheVariants as fault
 use Rattle.yarn_tree.specs.End.{EndsAt}
 use Rattle.yarn_tree.specs.Reading.{IsFileRead, IsFault, file_reading_of}
-use Rattle.yarn_tree.specs.Trees.{node_tree}
+use Rattle.yarn_tree.specs.Scan.{end_of}
+use Rattle.yarn_tree.specs.Trees.{NodeTree, node_tree}
 use Rattle.yarn_meaning.specs.Texts.{said_in_nodes}
 use Rattle.yarn_tag.specs.declared.spoken.Spoken.{Spoken}
 use Rattle.yarn_tag.specs.declared.fault.TagFault.{TagFault}
@@ -31,9 +32,12 @@ own_id (t ∷ ts) = if is_id t then Some t else own_id ts
 abbrev pub spoken_of : LineText → Spoken
 spoken_of text = record { line = text.line; id = own_id text.tags }
 
--- the lines and options of a file, in order of the text
+-- the lines and options of nodes and of a file, in order of the text
+abbrev pub spoken_in_nodes : List NodeTree → List Spoken
+spoken_in_nodes nodes = map spoken_of (said_in_nodes nodes)
+
 abbrev pub spoken_in : File → List Spoken
-spoken_in tree = map spoken_of (said_in_nodes (map node_tree tree.nodes))
+spoken_in tree = spoken_in_nodes (map node_tree tree.nodes)
 
 -- a line or an option without an id of its own is on that line
 abbrev pub lacks : List Spoken → ℕ → Bool
@@ -73,6 +77,7 @@ NoneFree taken next = (m : ℕ) → next ≤ m → m ≤ 268435455 → taken (id
 
 -- the text of a line that is said, or of an option, ends there before its comment
 pub record IsEnd (text : List ℕ) (end : ℕ) : Type 0 where
+  pub is : end ≡ end_of text
   pub of_line : (tokens : List Token) (said : Said) → IsLine text tokens said → EndsAt text end
   pub of_offer : (tokens : List Token) (said : Said) (asked : Option Expr) → IsOffer text tokens said asked → EndsAt text end
 

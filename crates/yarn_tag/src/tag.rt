@@ -3,6 +3,7 @@ ghost use Rattle.std.specs.Prelude.{◌≡◌, ◌≤◌, length, drop, IfOk};
 ghost use Rattle.yarn_lines.specs.Lines.{pieces_of, first_from, is_long, mark_length, lines_of};
 ghost use Rattle.yarn_tag.specs.Sets.{has, has_line, IsWritten, IsWithin};
 ghost use Rattle.yarn_tag.specs.Tagged.{spoken_in, lacks, has_id, too_long, IsTagged, IsTagAnswer};
+ghost use Rattle.yarn_tag.specs.Tagging.{tagging_of, IsTold};
 
 use crate::TagFault;
 use crate::sets::{Ids, LineSet};
@@ -22,7 +23,15 @@ const BYTE_ORDER_MARK: &[u8] = b"\xEF\xBB\xBF";
 
 /// The bytes of the file with ` #line:` and seven hexadecimal digits behind the text of each line and option that has no
 /// id of its own (docs/language.md, Tags). The numbers rise from `start`; those whose ids stand in the file are skipped.
+#[tactic(auto, using(crate::proofs::TaggingLemmas::answer_told))]
 pub fn tag_file(alloc: Global, file: &SourceFile, start: u32) -> Result<List<u8>, TagFault>
+    ensures tagged { IsTagAnswer file.now start result }
+    ensures value { IsTold (tagging_of file.now start) result }
+{
+    read_and_tag(alloc, file, start)
+}
+
+fn read_and_tag(alloc: Global, file: &SourceFile, start: u32) -> Result<List<u8>, TagFault>
     ensures { IsTagAnswer file.now start result }
 {
     match read_file(alloc, file) {

@@ -12,7 +12,7 @@ returns c =
     let found = c.in-Some-get.ensures.lookup.0 in
     record {
       end = end;
-      ends = record { of_line = c.text_end-end.ensures.line; of_offer = c.text_end-end.ensures.offer };
+      ends = record { is = c.text_end-end.ensures.value; of_line = c.text_end-end.ensures.line; of_offer = c.text_end-end.ensures.offer };
       to = same;
       written = tag-put c.args.out.now c.args.bytes.now text c.in-Some-get.rest.now c.in-Some.before.now c.extend_from_slice.new.self c.push_tag.new.out
           c.args.number c.args.at end c.in_ok-behind.behind (c.args.line.now.at + end) same c.in-Some.ensures.lookup.0.2 c.in_ok-extend_from_slice.ensures.ok
