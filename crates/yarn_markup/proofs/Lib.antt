@@ -3,6 +3,7 @@ pub mod TagLemmas
 pub mod PieceLemmas
 pub mod LengthLemmas
 pub mod SlotLemmas
+pub mod LatestLemmas
 pub mod TotalLemmas
 pub mod MarkupLemmas
 pub mod PlainLemmas

@@ -1,5 +1,5 @@
 -- What is kept goes on as the pieces say: each piece taken in leaves the same outcome.
-use Rattle.std.proofs.Common.{◌≡◌, ℕ, zero, suc, ◌+◌, ◌-◌, ◌<◌, ◌≤◌, List, [], ◌∷◌, ◌++◌, length, drop, get_or, map, Bool, true, false, not, cond, nat_eq, ◌||◌, Option, Some, None, refl, sym, ap, ◌∙◌, subst, arith, zero-add, add-zero, append_assoc, append-nil, encode_utf8, codes}
+use Rattle.std.proofs.Common.{◌≡◌, ℕ, zero, suc, ◌+◌, ◌-◌, ◌<◌, List, [], ◌∷◌, ◌++◌, length, get_or, map, Bool, true, false, not, cond, nat_eq, ◌||◌, Option, Some, None, refl, sym, ap, ◌∙◌, subst, arith, zero-add, add-zero, append_assoc, append-nil, encode_utf8, codes}
 use Rattle.std.specs.Str.{chars}
 use Rattle.std.proofs.Math.ListN.{set}
 use Rattle.std.proofs.lemmas.Slice.Eq.{bytes_eq-Decides}
@@ -10,7 +10,7 @@ use Rattle.yarn_markup.specs.declared.marked.Property.{Property}
 use Rattle.yarn_markup.specs.declared.fault.MarkupFault.{MarkupFault}
 use Rattle.yarn_markup.specs.declared.fault.MarkupFault.TheVariants.{BadMarkup}
 use Rattle.yarn_markup.specs.declared.piece.Piece.{Piece}
-use Rattle.yarn_markup.specs.declared.piece.Piece.TheVariants.{Stands, Opens, Lone, Closes, ClosesAll, Verbatim, Given, Lacks}
+use Rattle.yarn_markup.specs.declared.piece.Piece.TheVariants.{Stands, Opens, Lone, Closes, ClosesAll, Verbatim, Given}
 use Rattle.yarn_markup.specs.declared.slot.Slot.{Slot}
 use Rattle.yarn_markup.specs.declared.tag.Tag.{Tag}
 use Rattle.yarn_markup.specs.Pieces.{Item, At}
@@ -19,10 +19,10 @@ use Rattle.yarn_markup.specs.Slots.{opened_by, open_slots, counts_with, counts, 
 
 -- ---- names
 
-same-equal : (a b : List ℕ) → same_text a b ≡ true → a ≡ b
+pub same-equal : (a b : List ℕ) → same_text a b ≡ true → a ≡ b
 same-equal a b e = (bytes_eq-Decides a b).0 e
 
-same-self : (a : List ℕ) → same_text a a ≡ true
+pub same-self : (a : List ℕ) → same_text a a ≡ true
 same-self a = (bytes_eq-Decides a a).1 refl
 
 -- ---- attributes that stay
@@ -85,7 +85,7 @@ pub data Counted (name : List ℕ) (s : Slot) (o : Option ℕ) : Type 0 where
   is_one : o ≡ None → name ≡ s.name → counts_with name s o ≡ 1 → Counted name s o
   is_none : counts_with name s o ≡ 0 → Counted name s o
 
-counted : (name : List ℕ) (s : Slot) (o : Option ℕ) → Counted name s o
+pub counted : (name : List ℕ) (s : Slot) (o : Option ℕ) → Counted name s o
 counted name s None = by_name (same_text name s.name) refl
   where
     by_name : (b : Bool) → same_text name s.name ≡ b → Counted name s None
@@ -99,10 +99,10 @@ eq-zero n e = grind (arith, nat_tests)
 ne-zero : (n : ℕ) → nat_eq n 0 ≡ false → 0 < n
 ne-zero n e = grind (arith, nat_tests)
 
-zero-eq : (n : ℕ) → n ≡ 0 → nat_eq n 0 ≡ true
+pub zero-eq : (n : ℕ) → n ≡ 0 → nat_eq n 0 ≡ true
 zero-eq n e = grind (arith, nat_tests)
 
-pos-eq : (n : ℕ) → 0 < n → nat_eq n 0 ≡ false
+pub pos-eq : (n : ℕ) → 0 < n → nat_eq n 0 ≡ false
 pos-eq n e = grind (arith, nat_tests)
 
 counts_first : (name : List ℕ) (now : ℕ) (s : Slot) → Counted name s s.length → counts name (cond (nat_eq (counts name s) 0) s (closed_at now s)) ≡ counts name s - 1
@@ -154,7 +154,7 @@ place_own other name k now at items c e h =
     ap (λ (b : Bool). cond b (cond (nat_eq k 0) now (closing_place name (k - 1) now items)) (closing_place name k now items)) e
     ∙ ap (λ (b : Bool). cond b now (closing_place name (k - 1) now items)) h
 
-unnamed : (other : List ℕ) (s : Slot) → counts_with other s None ≡ 0 → same_text other s.name ≡ false
+pub unnamed : (other : List ℕ) (s : Slot) → counts_with other s None ≡ 0 → same_text other s.name ≡ false
 unnamed other s e = by_name (same_text other s.name) refl
   where
     by_name : (b : Bool) → same_text other s.name ≡ b → same_text other s.name ≡ false
@@ -293,8 +293,8 @@ completed_end now (s ∷ ss) = joined s _ _ _ _ (by_length s.length) (completed_
 abbrev pub outcome_of : List ℕ → List Attribute → Option MarkupFault → Outcome
 outcome_of plain xs first = record { plain = plain; attributes = xs; first = first }
 
-abbrev pub slot_of : List ℕ → ℕ → Option ℕ → List Property → ℕ → Slot
-slot_of name start n properties at = record { name = name; start = start; length = n; properties = properties; at = at }
+abbrev pub slot_of : List ℕ → ℕ → Option ℕ → List Property → ℕ → Option ℕ → Slot
+slot_of name start n properties at outer = record { name = name; start = start; length = n; properties = properties; at = at; outer = outer }
 
 same_outcome : (p q : List ℕ) (xs ys : List Attribute) (f g : Option MarkupFault) → p ≡ q → xs ≡ ys → f ≡ g → outcome_of p xs f ≡ outcome_of q ys g
 same_outcome p q xs ys f g e h k = ap (λ (x : List ℕ). outcome_of x xs f) e ∙ ap (λ (x : List Attribute). outcome_of q x f) h ∙ ap (λ (x : Option MarkupFault). outcome_of q ys x) k
@@ -313,27 +313,27 @@ add_cond : (b : Bool) (k : ℕ) → k + cond b 1 0 ≡ cond b (k + 1) k
 add_cond true k = refl
 add_cond false k = omega arith
 
-pub taken_opens : (k : Kept) (own : Tag) (at : ℕ) →
-    Takes k at (Opens own) (record { plain = k.plain; count = k.count; attributes = k.attributes; slots = k.slots ++ slot_of own.name k.count None own.properties at ∷ [] })
-taken_opens k own at = λ items. same_outcome _ _ _ _ _ _ refl
-    (ap (λ (xs : List Attribute). k.attributes ++ xs) (completed_more k.count k.count items (At at (Opens own) ∷ items) (slot_of own.name k.count None own.properties at) refl
+pub taken_opens : (k : Kept) (own : Tag) (at : ℕ) (outer : Option ℕ) →
+    Takes k at (Opens own) (record { plain = k.plain; count = k.count; attributes = k.attributes; slots = k.slots ++ slot_of own.name k.count None own.properties at outer ∷ [] })
+taken_opens k own at outer = λ items. same_outcome _ _ _ _ _ _ refl
+    (ap (λ (xs : List Attribute). k.attributes ++ xs) (completed_more k.count k.count items (At at (Opens own) ∷ items) (slot_of own.name k.count None own.properties at outer) refl
     (λ name n. ap (λ (m : ℕ). closing_place name m k.count items) (add_cond (same_text name own.name) n)) k.slots))
-    (ap (λ (os : List Opened). fault os items) (open_slots-more k.slots (slot_of own.name k.count None own.properties at)))
+    (ap (λ (os : List Opened). fault os items) (open_slots-more k.slots (slot_of own.name k.count None own.properties at outer)))
 
 pub taken_lone : (k : Kept) (own : Tag) (at : ℕ) →
-    Takes k at (Lone own) (record { plain = k.plain; count = k.count; attributes = k.attributes; slots = k.slots ++ slot_of own.name k.count (Some 0) own.properties at ∷ [] })
+    Takes k at (Lone own) (record { plain = k.plain; count = k.count; attributes = k.attributes; slots = k.slots ++ slot_of own.name k.count (Some 0) own.properties at None ∷ [] })
 taken_lone k own at = λ items. same_outcome _ _ _ _ _ _ refl
-    (ap (λ (xs : List Attribute). k.attributes ++ xs) (completed_more k.count k.count items (At at (Lone own) ∷ items) (slot_of own.name k.count (Some 0) own.properties at) refl
+    (ap (λ (xs : List Attribute). k.attributes ++ xs) (completed_more k.count k.count items (At at (Lone own) ∷ items) (slot_of own.name k.count (Some 0) own.properties at None) refl
     (λ name n. ap (λ (m : ℕ). closing_place name m k.count items) (add-zero n)) k.slots))
-    (ap (λ (os : List Opened). fault os items) (open_slots-more k.slots (slot_of own.name k.count (Some 0) own.properties at) ∙ append-nil (open_slots k.slots)))
+    (ap (λ (os : List Opened). fault os items) (open_slots-more k.slots (slot_of own.name k.count (Some 0) own.properties at None) ∙ append-nil (open_slots k.slots)))
 
 pub taken_verbatim : (k : Kept) (text : List ℕ) (at n : ℕ) → n ≡ length (chars text) →
-    Takes k at (Verbatim text) (record { plain = k.plain ++ text; count = k.count + length (chars text); attributes = k.attributes; slots = k.slots ++ slot_of (codes "nomarkup") k.count (Some n) [] at ∷ [] })
+    Takes k at (Verbatim text) (record { plain = k.plain ++ text; count = k.count + length (chars text); attributes = k.attributes; slots = k.slots ++ slot_of (codes "nomarkup") k.count (Some n) [] at None ∷ [] })
 taken_verbatim k text at n e = λ items. same_outcome _ _ _ _ _ _ (append_assoc k.plain text (plain_text items))
-    (ap (λ (xs : List Attribute). k.attributes ++ xs) (completed_more k.count (k.count + length (chars text)) items (At at (Verbatim text) ∷ items) (slot_of (codes "nomarkup") k.count (Some n) [] at)
+    (ap (λ (xs : List Attribute). k.attributes ++ xs) (completed_more k.count (k.count + length (chars text)) items (At at (Verbatim text) ∷ items) (slot_of (codes "nomarkup") k.count (Some n) [] at None)
     (ap (λ (m : ℕ). record { name = codes "nomarkup"; start = k.count; length = m; properties = [] } ∷ attributes (k.count + length (chars text)) items) e)
     (λ name m. ap (λ (m : ℕ). closing_place name m (k.count + length (chars text)) items) (add-zero m)) k.slots))
-    (ap (λ (os : List Opened). fault os items) (open_slots-more k.slots (slot_of (codes "nomarkup") k.count (Some n) [] at) ∙ append-nil (open_slots k.slots)))
+    (ap (λ (os : List Opened). fault os items) (open_slots-more k.slots (slot_of (codes "nomarkup") k.count (Some n) [] at None) ∙ append-nil (open_slots k.slots)))
 
 open_cases : (name : List ℕ) (ss : List Slot) (b : Bool) → b ≡ not (nat_eq (open_count name ss) 0) → is_open name (open_slots ss) ≡ b
 open_cases name ss b e = is_open-count name ss ∙ sym e
@@ -391,26 +391,26 @@ pub given_taken : (k : Kept) (text : List ℕ) (at : ℕ) (plain : List ℕ) (co
     Takes k at (Given text) (kept_of plain count k.attributes k.slots)
 given_taken k text at plain count e f = takes_same k at (Given text) _ _ _ _ _ _ _ _ (taken_given k text at) e f refl refl
 
-pub opens_taken : (k : Kept) (own : Tag) (at : ℕ) (slots : List Slot) → slots ≡ k.slots ++ slot_of own.name k.count None own.properties at ∷ [] →
+pub opens_taken : (k : Kept) (own : Tag) (at : ℕ) (outer : Option ℕ) (slots : List Slot) → slots ≡ k.slots ++ slot_of own.name k.count None own.properties at outer ∷ [] →
     Takes k at (Opens own) (kept_of k.plain k.count k.attributes slots)
-opens_taken k own at slots e = takes_same k at (Opens own) _ _ _ _ _ _ _ _ (taken_opens k own at) refl refl refl e
+opens_taken k own at outer slots e = takes_same k at (Opens own) _ _ _ _ _ _ _ _ (taken_opens k own at outer) refl refl refl e
 
-pub lone_taken : (k : Kept) (own : Tag) (at : ℕ) (slots : List Slot) → slots ≡ k.slots ++ slot_of own.name k.count (Some 0) own.properties at ∷ [] →
+pub lone_taken : (k : Kept) (own : Tag) (at : ℕ) (slots : List Slot) → slots ≡ k.slots ++ slot_of own.name k.count (Some 0) own.properties at None ∷ [] →
     Takes k at (Lone own) (kept_of k.plain k.count k.attributes slots)
 lone_taken k own at slots e = takes_same k at (Lone own) _ _ _ _ _ _ _ _ (taken_lone k own at) refl refl refl e
 
 pub verbatim_taken : (k mid : Kept) (text name : List ℕ) (properties : List Property) (at n : ℕ) (slots : List Slot) →
     mid ≡ kept_of (k.plain ++ text) (k.count + length (chars text)) k.attributes k.slots → n ≡ mid.count - k.count →
-    name ≡ codes "nomarkup" → properties ≡ [] → slots ≡ mid.slots ++ slot_of name k.count (Some n) properties at ∷ [] →
+    name ≡ codes "nomarkup" → properties ≡ [] → slots ≡ mid.slots ++ slot_of name k.count (Some n) properties at None ∷ [] →
     Takes k at (Verbatim text) (kept_of mid.plain mid.count mid.attributes slots)
 verbatim_taken k mid text name properties at n slots e f named empty g =
     let count : mid.count ≡ k.count + length (chars text) = ap (λ (m : Kept). m.count) e in
     let size : n ≡ length (chars text) = omega (arith, f, count) in
     takes_same k at (Verbatim text) _ _ _ _ _ _ _ _ (taken_verbatim k text at n size)
     (ap (λ (m : Kept). m.plain) e) count (ap (λ (m : Kept). m.attributes) e)
-    (g ∙ ap (λ (m : Kept). m.slots ++ slot_of name k.count (Some n) properties at ∷ []) e
-    ∙ ap (λ (x : List ℕ). k.slots ++ slot_of x k.count (Some n) properties at ∷ []) named
-    ∙ ap (λ (x : List Property). k.slots ++ slot_of (codes "nomarkup") k.count (Some n) x at ∷ []) empty)
+    (g ∙ ap (λ (m : Kept). m.slots ++ slot_of name k.count (Some n) properties at None ∷ []) e
+    ∙ ap (λ (x : List ℕ). k.slots ++ slot_of x k.count (Some n) properties at None ∷ []) named
+    ∙ ap (λ (x : List Property). k.slots ++ slot_of (codes "nomarkup") k.count (Some n) x at None ∷ []) empty)
 
 pub closes_taken : (k : Kept) (name : List ℕ) (at : ℕ) (slots : List Slot) → true ≡ not (nat_eq (open_count name k.slots) 0) →
     slots ≡ close_latest name k.count k.slots → Takes k at (Closes name) (kept_of k.plain k.count k.attributes slots)
@@ -426,24 +426,7 @@ finish_found k xs none e = finished k none ∙ ap (λ (x : List Attribute). outc
 
 -- ---- the latest open attribute of a name
 
-pub latest_here : (name : List ℕ) (ss : List Slot) (k : ℕ) (s : Slot) → k < length ss → open_count name (drop (k + 1) ss) ≡ 0 → s ≡ get_or ss k s → counts name s ≡ 1 → IsLatest name ss k
-latest_here name [] k s h e f g = absurd (omega arith)
-latest_here name (x ∷ ss) zero s h e f g = (sym (ap (counts name) f) ∙ g, e)
-latest_here name (x ∷ ss) (suc k) s h e f g =
-    let next : suc k + 1 ≡ suc (k + 1) = omega arith in
-    let later : open_count name (drop (suc (k + 1)) (x ∷ ss)) ≡ 0 = subst (λ (m : ℕ). open_count name (drop m (x ∷ ss)) ≡ 0) next e in
-    latest_here name ss k s (omega arith) later f g
-
-pub latest_found : (name : List ℕ) (ss : List Slot) (at n : ℕ) (s : Slot) → 0 < at → at ≤ length ss → n ≡ at - 1 → open_count name (drop at ss) ≡ 0 → s ≡ get_or ss n s → nat_eq (counts name s) 1 ≡ true → IsLatest name ss n
-latest_found name ss at n s h i j e f g =
-    let same : at ≡ n + 1 = omega arith in
-    let one : counts name s ≡ 1 = is_one_of (counts name s) g in
-    latest_here name ss n s (omega arith) (subst (λ (m : ℕ). open_count name (drop m ss) ≡ 0) same e) f one
-  where
-    is_one_of : (m : ℕ) → nat_eq m 1 ≡ true → m ≡ 1
-    is_one_of m e = grind (arith, nat_tests)
-
-latest_counts : (name : List ℕ) (ss : List Slot) (k : ℕ) → IsLatest name ss k → 0 < open_count name ss
+pub latest_counts : (name : List ℕ) (ss : List Slot) (k : ℕ) → IsLatest name ss k → 0 < open_count name ss
 latest_counts name [] k h = absurd h
 latest_counts name (x ∷ ss) zero h = omega (arith, h.0)
 latest_counts name (x ∷ ss) (suc k) h = omega (arith, latest_counts name ss k h)
@@ -451,15 +434,18 @@ latest_counts name (x ∷ ss) (suc k) h = omega (arith, latest_counts name ss k 
 pub latest_open : (name : List ℕ) (ss : List Slot) (k : ℕ) → IsLatest name ss k → true ≡ not (nat_eq (open_count name ss) 0)
 latest_open name ss k h = sym (ap not (pos-eq (open_count name ss) (latest_counts name ss k h)))
 
+pub none_open : (name : List ℕ) (ss : List Slot) → open_count name ss ≡ 0 → false ≡ not (nat_eq (open_count name ss) 0)
+none_open name ss e = sym (ap not (zero-eq (open_count name ss) e))
+
 pub none_latest : (name : List ℕ) (now : ℕ) (ss : List Slot) → open_count name ss ≡ 0 → ss ≡ close_latest name now ss
 none_latest name now ss e = sym (close_none name now ss e)
 
 pub set_latest : (name : List ℕ) (now : ℕ) (ss : List Slot) (k : ℕ) (s t : Slot) (n : ℕ) → IsLatest name ss k → s ≡ get_or ss k s → t ≡ get_or ss k t → n ≡ now - t.start →
-    set ss k (slot_of s.name s.start (Some n) s.properties s.at) ≡ close_latest name now ss
+    set ss k (slot_of s.name s.start (Some n) s.properties s.at s.outer) ≡ close_latest name now ss
 set_latest name now [] k s t n h e f g = absurd h
 set_latest name now (x ∷ ss) zero s t n h e f g =
-    ap (λ (y : Slot). slot_of y.name y.start (Some n) y.properties y.at ∷ ss) e
-    ∙ ap (λ (m : ℕ). slot_of x.name x.start (Some m) x.properties x.at ∷ ss) (g ∙ ap (λ (y : Slot). now - y.start) f)
+    ap (λ (y : Slot). slot_of y.name y.start (Some n) y.properties y.at y.outer ∷ ss) e
+    ∙ ap (λ (m : ℕ). slot_of x.name x.start (Some m) x.properties x.at x.outer ∷ ss) (g ∙ ap (λ (y : Slot). now - y.start) f)
     ∙ sym (ap (λ (b : Bool). cond b (cond (nat_eq (counts name x) 0) x (closed_at now x) ∷ ss) (x ∷ close_latest name now ss)) (zero-eq (open_count name ss) h.1)
     ∙ ap (λ (b : Bool). cond b x (closed_at now x) ∷ ss) (pos-eq (counts name x) (omega (arith, h.0))))
 set_latest name now (x ∷ ss) (suc k) s t n h e f g =

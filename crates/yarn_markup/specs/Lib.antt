@@ -5,5 +5,6 @@ pub mod Pieces
 pub mod Steps
 pub mod Attributes
 pub mod Slots
+pub mod Latest
 pub mod Markup
 pub mod Plain

@@ -36,7 +36,7 @@ open_count name (s ∷ ss) = counts name s + open_count name ss
 
 -- the attribute closed at that place of the plain text
 abbrev pub closed_at : ℕ → Slot → Slot
-closed_at now s = record { name = s.name; start = s.start; length = Some (now - s.start); properties = s.properties; at = s.at }
+closed_at now s = record { name = s.name; start = s.start; length = Some (now - s.start); properties = s.properties; at = s.at; outer = s.outer }
 
 -- with the latest open one of that name closed, where there is one
 abbrev pub close_latest : List ℕ → ℕ → List Slot → List Slot

@@ -9,6 +9,7 @@ mod fault;
 mod filled;
 mod front;
 mod kind;
+mod latest;
 mod laws;
 mod marked;
 mod markup;

@@ -1,10 +1,13 @@
 //! The attributes that were opened so far, in order, some of them still open.
-ghost use Rattle.std.specs.Prelude.{◌≡◌, ◌<◌, ◌++◌, ◌∷◌, [], ◌≤◌, map, not, nat_eq, MatchOption, IfSome, OnOk, None, Some, length};
+ghost use Rattle.std.specs.Prelude.{◌≡◌, ◌++◌, ◌∷◌, [], map, not, nat_eq, MatchOption, OnOk, IfOk, None, Some};
 ghost use Rattle.yarn_markup.specs.Attributes.{is_some_open, left_open};
-ghost use Rattle.yarn_markup.specs.Slots.{counts, open_count, open_slots, close_latest, IsLatest, ended_at, length_at};
+ghost use Rattle.yarn_markup.specs.Slots.{open_count, open_slots, close_latest, ended_at, length_at};
+ghost use Rattle.yarn_markup.specs.Latest.{IsTracked};
 
+use crate::latest::set_latest;
 use crate::{Attribute, MarkupFault, Property};
 use std::alloc::Global;
+use std::collections::BTreeMap;
 use std::mem;
 use yarn_base::{List, Memory, Text};
 
@@ -17,42 +20,31 @@ pub(crate) struct Slot {
     pub properties: List<Property>,
     /// The place of its tag in the text.
     pub at: u32,
+    /// Where the latest open attribute of its name stood when it was opened.
+    pub outer: Option<usize>,
 }
 
 /// Closes the latest open attribute of that name, and says whether there was one.
-pub(crate) fn close_latest(slots: &mut Vec<Slot>, name: &str, now: u64) -> bool
-    ensures found { result ≡ not (nat_eq (open_count name.now slots.old.items) 0) }
-    ensures closed { slots.new.items ≡ close_latest name.now now slots.old.items }
+pub(crate) fn close_latest(
+    slots: &mut Vec<Slot>,
+    latest: &mut BTreeMap<Text, usize>,
+    name: &Text,
+    now: u64,
+) -> Result<bool, Memory>
+    requires { IsTracked latest.old slots.old.items }
+    ensures found { IfOk result (λ found. found ≡ not (nat_eq (open_count name.now slots.old.items) 0)) }
+    ensures closed { OnOk result (slots.new.items ≡ close_latest name.now now slots.old.items) }
+    ensures tracked { OnOk result (IsTracked latest.new slots.new.items) }
 {
-    match latest(slots.as_slice(), name) {
+    match latest.get(name).copied() {
         Some(at) => {
+            set_latest(latest, name, slots[at].outer)?;
             let start = slots[at].start;
             slots[at].length = Some(now.saturating_sub(start));
-            true
+            Ok(true)
         }
-        None => false,
+        None => Ok(false),
     }
-}
-
-// The place of the latest open attribute of that name.
-fn latest(slots: &[Slot], name: &str) -> Option<usize>
-    ensures place { MatchOption result (open_count name.now slots.now ≡ 0) (λ at. IsLatest name.now slots.now at) }
-    ensures within { IfSome result (λ at. at < length slots.now) }
-{
-    let mut at = slots.len();
-    while at > 0 {
-        at -= 1;
-        if is_open_named(&slots[at], name) {
-            return Some(at);
-        }
-    }
-    None
-}
-
-fn is_open_named(slot: &Slot, name: &str) -> bool
-    ensures { result ≡ nat_eq (counts name.now slot.now) 1 }
-{
-    slot.length.is_none() && name == slot.name.as_str()
 }
 
 /// Whether one is open.

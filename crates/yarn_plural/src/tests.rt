@@ -116,7 +116,7 @@ fn published_lines_are_read(rt: HostRuntime) -> Result<(), Fail> {
     let slovenian =
         "few: v = 0 and i % 100 = 3..4 or v != 0 @integer 3, 4, 103, … @decimal 0.0~1.5, …";
     let japanese = "other: @integer 0~15, 100, 1000, … @decimal 0.0~1.5, 10.0, …";
-    let rows: [(&str, i64, Category); 26] = [
+    let rows: [(&str, i64, Category); 39] = [
         (polish, 0, Category::Many),
         (polish, 1, Category::Other),
         (polish, 2, Category::Other),
@@ -143,6 +143,23 @@ fn published_lines_are_read(rt: HostRuntime) -> Result<(), Fail> {
         (danish, 0, Category::Other),
         (slovenian, 104, Category::Few),
         (japanese, 1, Category::Other),
+        ("one: n = 1\ntwo: n = 1,2", 1, Category::One),
+        ("one: n = 1\ntwo: n = 1,2", 2, Category::Two),
+        ("other:\none: n = 1", -1, Category::One),
+        ("other:\none: n = 1", 1, Category::One),
+        ("other:\none: n = 1", 2, Category::Other),
+        (
+            "few: i = 7 and v = 0 and w = 0 and f = 0 and t = 0 and c = 0 and e = 0",
+            -7,
+            Category::Few,
+        ),
+        ("many: n % 10 = 8", -9223372036854775808, Category::Many),
+        ("one: n = 9..1", 5, Category::Other),
+        ("two: n != 9..1,5", 6, Category::Two),
+        ("two: n != 9..1,5", 5, Category::Other),
+        ("one: n = 1 or n = 2 and n != 1", 1, Category::One),
+        ("one: n = 1 or n = 2 and n != 1", 2, Category::One),
+        ("one: n = 1 or n = 2 and n != 1", 3, Category::Other),
     ];
     for (line, number, expected) in rows {
         let file = format!(in alloc; "ordinal\n{line}")?;
@@ -167,7 +184,7 @@ fn repeated(line: u32) -> Option<PluralFault> {
 #[test]
 fn files_are_refused_at_their_first_line(rt: HostRuntime) -> Result<(), Fail> {
     let alloc = rt.alloc();
-    let rows: [(&[u8], Option<PluralFault>); 46] = [
+    let rows: [(&[u8], Option<PluralFault>); 47] = [
         (b"", None),
         (b"\n \t\r\n# \xC3\xBC : =\n\n \t# x", None),
         (
@@ -185,6 +202,7 @@ fn files_are_refused_at_their_first_line(rt: HostRuntime) -> Result<(), Fail> {
         (b"ordinal\none i = 1", bad(2)),
         (b"one: n = 1", bad(1)),
         (b"# x\n\none: n = 1\ncardinal", bad(3)),
+        (b"ordinal\nother:\nother:", repeated(3)),
         (b"cardinal\none: n = 1\none: n = 1", repeated(3)),
         (
             b"cardinal\nother:\n\nordinal\nother:\ncardinal\nother:",

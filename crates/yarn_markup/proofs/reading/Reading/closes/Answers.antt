@@ -1,13 +1,12 @@
-use Rattle.std.proofs.Common.{◌≡◌, List, ℕ, true, false, not, nat_eq, subst}
-use Rattle.yarn_markup.specs.Slots.{kept, open_count, close_latest}
+use Rattle.std.proofs.Common.{sym, ◌∙◌}
+use Rattle.yarn_markup.specs.Slots.{kept}
 use Rattle.yarn_markup.proofs.SlotLemmas.{closes_taken, fails_closes}
 use Rattle.yarn_markup.proofs.reading.Reading.closes.Goals as goal
 
-pub returns-then-close_latest : goal.returns-then-close_latest
-returns-then-close_latest c = closes_taken (kept c.args.self.now) c.args.name.now c.args.at _
-    (subst (λ (n : List ℕ). true ≡ not (nat_eq (open_count n c.args.self.now.slots.items) 0)) c.as_str.ensures.value c.if-close_latest.ensures.found)
-    (subst (λ (n : List ℕ). c.close_latest.new.slots.items ≡ close_latest n c.args.self.now.count c.args.self.now.slots.items) c.as_str.ensures.value c.if-close_latest.ensures.closed)
+pub returns-then-branch-clause-taken : goal.returns-then-branch-clause-taken
+returns-then-branch-clause-taken c = closes_taken (kept c.args.self.now) c.args.name.now c.args.at _
+    (sym c.if-branch.true ∙ c.in_ok-close_latest.ensures.found) c.in_ok-close_latest.ensures.closed
 
-pub returns-else-close_latest : goal.returns-else-close_latest
-returns-else-close_latest c = fails_closes (kept c.args.self.now) c.args.name.now c.args.at
-    (subst (λ (n : List ℕ). false ≡ not (nat_eq (open_count n c.args.self.now.slots.items) 0)) c.as_str.ensures.value c.if-close_latest.ensures.found)
+pub returns-else-branch-clause-taken : goal.returns-else-branch-clause-taken
+returns-else-branch-clause-taken c = fails_closes (kept c.args.self.now) c.args.name.now c.args.at
+    (sym c.if-branch.false ∙ c.in_ok-close_latest.ensures.found)
