@@ -19,7 +19,7 @@ use Rattle.yarn_code.specs.declared.program.Program.{Program}
 use Rattle.yarn_code.specs.Fields.{AreUnique, IsVariableField, IsFunctionField, IsNodeField, IsLineField, names_of, function_names, titles_of, ids_of}
 use Rattle.yarn_code.specs.Spelling.{Spells}
 use Rattle.yarn_code.specs.Format.{IsSpelled, ◌>>=◌, Ends, U8, U32, U64, number_bytes, text_bytes, times}
-use Rattle.yarn_code.specs.Layout.{any, text, kind_field, number_of_kind, kind_of_number, number_of_truth, kinds, file_name, is_mark, program_file, is_few, is_short, is_template, is_new, many, value_of, variable_name, variable, is_host_name, function_name, function, instructions, title_field, node, id_field, base_line}
+use Rattle.yarn_code.specs.Layout.{any, text, kind_field, number_of_kind, kind_of_number, number_of_truth, kinds, file_name, is_mark, program_file, is_few, is_short, is_template, is_new, many, value_of, variable, is_host_name, function, instructions, node, base_line}
 use Rattle.yarn_code.specs.Writing.{Writes, HasWritten}
 use Rattle.yarn_code.proofs.WritingLemmas.{HasWritten-next, Writes-end, Writes-then, number_written, text_written}
 use Rattle.yarn_code.proofs.CodedLemmas.{few_passes, few_byte, short_passes, short_word, truth_byte, truth_passes, truth_back, whole_back, whole_small, template_passes}
@@ -130,7 +130,7 @@ pub variable_written : (v : Variable) (before : List Variable) (a b c d : List �
     → b ≡ a ++ text_bytes v.name → IsUtf8 v.name → Writes kind_field (kind_of v.initial) b c → Writes (value_of (kind_of v.initial)) v.initial c d → Writes (variable before) v a d
 unfolding variable
 variable_written v before a b c d short field new e utf8 kind_put value_put =
-    text_written (variable_name before) _ v.name v a b d short utf8 (both (is_variable_of (chars v.name)) (is_new (names_of before) v.name) field.named new) e
+    text_written (λ t. is_variable_of (chars t) && is_new (names_of before) t) _ v.name v a b d short utf8 (both (is_variable_of (chars v.name)) (is_new (names_of before) v.name) field.named new) e
     (Writes-then kind_field (λ k. value_of k >>= λ x. Ends (record { name = v.name; initial = x })) (kind_of v.initial) v b c d kind_put
     (Writes-then (value_of (kind_of v.initial)) (λ x. Ends (record { name = v.name; initial = x })) v.initial v c d d value_put (Writes-end v d)))
 
@@ -141,7 +141,7 @@ pub function_written : (s : Signature) (before : List Signature) (a b c d e : Li
     → b ≡ a ++ text_bytes s.name → IsUtf8 s.name → c ≡ b ++ number_bytes U8 (length s.params) → Writes (times (length s.params) kinds []) s.params c d → Writes kind_field s.result d e → Writes (function before) s a e
 unfolding function
 function_written s before a b c d e short field new at utf8 at_count params result =
-    text_written (function_name before) _ s.name s a b e short utf8
+    text_written (λ t. is_host_name t && is_new (function_names before) t) _ s.name s a b e short utf8
     (both (is_host_name s.name) (is_new (function_names before) s.name)
     (both (is_name_of (chars s.name)) (not (is_reserved s.name) && not (is_some (builtin_named s.name))) field.named
     (both (not (is_reserved s.name)) (not (is_some (builtin_named s.name))) (not_passes (is_reserved s.name) field.free) (none_found s.name field.host))) new) at
@@ -159,7 +159,7 @@ pub node_written : (p : Program) (n : CodeNode) (before : List CodeNode) (a b c 
     → b ≡ a ++ text_bytes n.title → IsUtf8 n.title → c ≡ b ++ number_bytes U32 n.file → d ≡ c ++ number_bytes U32 (length n.code) → Writes (times (length n.code) instructions []) n.code d e → Writes (node (length p.files) before) n a e
 unfolding node
 node_written p n before a b c d e short many_code small field new at utf8 at_file at_count code =
-    text_written (title_field before) _ n.title n a b e short utf8 (both (is_name_of (chars n.title)) (is_new (titles_of before) n.title) field.named new) at
+    text_written (λ t. is_name_of (chars t) && is_new (titles_of before) t) _ n.title n a b e short utf8 (both (is_name_of (chars n.title)) (is_new (titles_of before) n.title) field.named new) at
     (number_written U32 (λ m. nat_lt m (length p.files)) _ n.file n b c e small (below_passes n.file (length p.files) field.filed) at_file
     (number_written U32 (λ m. nat_le 1 m) _ (length n.code) n c d e many_code (some_passes (length n.code) field.some) at_count
     (Writes-then (times (length n.code) instructions []) (λ l. Ends (record { title = n.title; file = n.file; code = l })) n.code n d e e code (Writes-end n e))))
@@ -170,7 +170,7 @@ pub line_written : (p : Program) (l : BaseLine) (before : List BaseLine) (a b c 
     → e ≡ d ++ number_bytes U32 l.file → f ≡ e ++ number_bytes U32 l.node → g ≡ f ++ number_bytes U32 l.line → Writes (base_line (length p.files) (length p.nodes) before) l a g
 unfolding base_line
 line_written p l before a b c d e f g short short_text file node line field new at utf8 at_holes at_text utf8_text at_file at_node at_line =
-    text_written (id_field before) _ l.id l a b g short utf8 (both (nat_le 1 (length l.id)) (is_new (ids_of before) l.id) (some_passes (length l.id) field.named) new) at
+    text_written (λ t. nat_le 1 (length t) && is_new (ids_of before) t) _ l.id l a b g short utf8 (both (nat_le 1 (length l.id)) (is_new (ids_of before) l.id) (some_passes (length l.id) field.named) new) at
     (number_written U8 is_few _ l.holes l b c g (few_byte l.holes field.text.few) (few_passes l.holes field.text.few) at_holes
     (text_written (is_template l.holes) _ l.text l c d g short_text utf8_text (template_passes l.text l.holes field.text) at_text
     (number_written U32 (λ m. nat_lt m (length p.files)) _ l.file l d e g file (below_passes l.file (length p.files) field.filed) at_file

@@ -6,3 +6,13 @@ pub mod CodedLemmas
 pub mod EncodingLemmas
 pub mod Reading
 pub mod ListedLemmas
+pub mod ReadLoops
+pub mod NameLemmas
+pub mod ProgramParts
+pub mod BeginLemmas
+pub mod DecodeLemmas
+pub mod SpelledCode
+pub mod SpelledLemmas
+pub mod WordLemmas
+pub mod ListingLemmas
+pub mod DecodedLemmas

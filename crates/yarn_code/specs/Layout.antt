@@ -85,33 +85,34 @@ value_of kind.Number = whole >>= λ n. Ends (value.Number n)
 value_of kind.Str = text is_short >>= λ t. Ends (value.Str t)
 value_of kind.Truth = truth >>= λ b. Ends (value.Truth b)
 
-abbrev pub variable_name : List Variable → List ℕ → Bool
-variable_name before t = is_variable_of (chars t) && is_new (names_of before) t
-
-unfoldable pub variable : List Variable → Format Variable
-variable before = do
-  name ← text (variable_name before)
+-- a variable whose name passes a test; the others below are told so too
+abbrev pub variable_with : (List ℕ → Bool) → Format Variable
+variable_with free = do
+  name ← text (λ t. is_variable_of (chars t) && free t)
   kind ← kind_field
   initial ← value_of kind
   Ends (record { name = name; initial = initial })
+
+unfoldable pub variable : List Variable → Format Variable
+variable before = variable_with (is_new (names_of before))
 
 -- a name that is neither a word of expressions nor a builtin
 abbrev pub is_host_name : List ℕ → Bool
 is_host_name t = is_name_of (chars t) && (not (is_reserved t) && not (is_some (builtin_named t)))
 
-abbrev pub function_name : List Signature → List ℕ → Bool
-function_name before t = is_host_name t && is_new (function_names before) t
-
 abbrev pub kinds : List K.Kind → Format K.Kind
 kinds earlier = kind_field
 
-unfoldable pub function : List Signature → Format Signature
-function before = do
-  name ← text (function_name before)
+abbrev pub function_with : (List ℕ → Bool) → Format Signature
+function_with free = do
+  name ← text (λ t. is_host_name t && free t)
   count ← byte is_few
   params ← times count kinds []
   result ← kind_field
   Ends (record { name = name; params = params; result = result })
+
+unfoldable pub function : List Signature → Format Signature
+function before = function_with (is_new (function_names before))
 
 -- the fields of operands
 abbrev pub operand_fields : Operands → Format Instr
@@ -142,29 +143,29 @@ coded = do
 abbrev pub instructions : List Coded → Format Coded
 instructions earlier = coded
 
-abbrev pub title_field : List CodeNode → List ℕ → Bool
-title_field before t = is_name_of (chars t) && is_new (titles_of before) t
-
-unfoldable pub node : ℕ → List CodeNode → Format CodeNode
-node files before = do
-  title ← text (title_field before)
+abbrev pub node_with : ℕ → (List ℕ → Bool) → Format CodeNode
+node_with files free = do
+  title ← text (λ t. is_name_of (chars t) && free t)
   file ← word (λ n. nat_lt n files)
   count ← word (λ n. nat_le 1 n)
   code ← times count instructions []
   Ends (record { title = title; file = file; code = code })
 
-abbrev pub id_field : List BaseLine → List ℕ → Bool
-id_field before t = nat_le 1 (length t) && is_new (ids_of before) t
+unfoldable pub node : ℕ → List CodeNode → Format CodeNode
+node files before = node_with files (is_new (titles_of before))
 
-unfoldable pub base_line : ℕ → ℕ → List BaseLine → Format BaseLine
-base_line files nodes before = do
-  id ← text (id_field before)
+abbrev pub base_line_with : ℕ → ℕ → (List ℕ → Bool) → Format BaseLine
+base_line_with files nodes free = do
+  id ← text (λ t. nat_le 1 (length t) && free t)
   holes ← byte is_few
   template ← text (is_template holes)
   file ← word (λ n. nat_lt n files)
   node ← word (λ n. nat_lt n nodes)
   line ← word any
   Ends (record { id = id; holes = holes; text = template; file = file; node = node; line = line })
+
+unfoldable pub base_line : ℕ → ℕ → List BaseLine → Format BaseLine
+base_line files nodes before = base_line_with files nodes (is_new (ids_of before))
 
 abbrev pub file_name : List (List ℕ) → Format (List ℕ)
 file_name earlier = text any

@@ -7,6 +7,9 @@ pub mod Fields
 pub mod Format
 pub mod FormatReading
 pub mod Opcodes
+pub mod Listing
+pub mod ListingSteps
+pub mod ListingText
 pub mod Layout
 pub mod Spelling
 pub mod Writing
@@ -19,3 +22,5 @@ pub mod Listed
 pub mod Next
 pub mod Scan
 pub mod Taking
+pub mod Decoding
+pub mod Decoded

@@ -33,3 +33,6 @@ pub(crate) const STORE_VARIABLE: u8 = 14;
 pub(crate) const STOP: u8 = 15;
 
 pub(crate) const RUN_NODE: u8 = 16;
+
+/// How many instructions there are.
+pub(crate) const COUNT: u8 = 17;
