@@ -8,3 +8,5 @@ mod run;
 
 pub use ends::{PlayEnd, PlayFault, Played};
 pub use run::play;
+pub use yarn_code::take_answer;
+pub use yarn_render::render;

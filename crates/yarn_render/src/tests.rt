@@ -66,6 +66,16 @@ const SHOP: &[Case] = &[
         true,
         "<<give_item lamp 1>>\n",
     ),
+    (
+        Options(&[
+            (false, "Lampe kaufen (9)"),
+            (false, "Boot kaufen (900)"),
+            (true, "Gehen"),
+        ]),
+        "{0}",
+        false,
+        "1) [closed] Lampe kaufen (9)\n2) [closed] Boot kaufen (900)\n3) Gehen\n",
+    ),
     (Given::Rejected, "", true, "(no such choice)\n"),
     (
         Line(&["2"]),
