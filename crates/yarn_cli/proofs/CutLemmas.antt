@@ -5,6 +5,7 @@ use Rattle.yarn_base.specs.declared.Place.{Place}
 use Rattle.yarn_base.specs.declared.SourceFile.{SourceFile}
 use Rattle.yarn_tree.specs.Reading.{reading_of, file_reading_of}
 use Rattle.yarn_tree.specs.Size.{is_big, is_too_much, too_much}
+use Rattle.yarn_tag.specs.Tagging.{tagging_of}
 use Rattle.yarn_cli.specs.Read.{cut}
 
 lt-true : (a b : ℕ) → a < b → nat_lt a b ≡ true
@@ -84,3 +85,12 @@ file_reading-cut file = by_test (is_big file) refl
     by_test : (t : Bool) → is_big file ≡ t → file_reading_of (cut file) ≡ file_reading_of file
     by_test true is = let short = cut-big file is in rw (short, is) refl
     by_test false is = ap file_reading_of (cut-small file is)
+
+-- a file that is too long is refused before it is tagged
+pub tagging-cut : (file : SourceFile) (start : ℕ) → tagging_of (cut file) start ≡ tagging_of file start
+unfolding tagging_of file_reading_of
+tagging-cut file start = by_test (is_big file) refl
+  where
+    by_test : (t : Bool) → is_big file ≡ t → tagging_of (cut file) start ≡ tagging_of file start
+    by_test true is = let short = cut-big file is in rw (short, is) refl
+    by_test false is = ap (λ (f : SourceFile). tagging_of f start) (cut-small file is)

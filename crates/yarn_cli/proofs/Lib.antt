@@ -8,3 +8,4 @@ pub mod RunLemmas
 pub mod WordsLemmas
 mod TreeLemmas
 pub mod StringsLemmas
+pub mod TableLemmas

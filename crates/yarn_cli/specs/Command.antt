@@ -33,6 +33,15 @@ limit_in (Some word) = number_in 1 1000000000 word
 abbrev pub limit_of : Command → ℕ
 limit_of command = or_default 100000 (limit_in (value_of (codes "limit") command.pairs))
 
+-- the number of a word that was given for the first number of a tag
+abbrev pub from_in : Option (List ℕ) → Option ℕ
+from_in None = None
+from_in (Some word) = number_in 0 268435455 word
+
+-- the first number of a tag
+abbrev pub from_of : Command → ℕ
+from_of command = or_default 0 (from_in (value_of (codes "from") command.pairs))
+
 -- the file with the variables to begin with
 abbrev pub vars_name_of : Command → Option (List ℕ)
 vars_name_of command = value_of (codes "vars") command.pairs

@@ -4,7 +4,7 @@ use Rattle.std.specs.Prelude.{◌≡◌, ℕ, List, [], ◌∷◌, ◌++◌, len
 use Rattle.std.specs.List.{All, list_all}
 use Rattle.std.specs.Str.{bytes_eq}
 use Rattle.yarn_cli.specs.declared.command.CommandKind.{CommandKind}
-use Rattle.yarn_cli.specs.declared.command.CommandKind.TheVariants.{Check, Format, Strings, Play}
+use Rattle.yarn_cli.specs.declared.command.CommandKind.TheVariants.{Check, Format, Strings, Tag, Play}
 use Rattle.yarn_cli.specs.declared.words.Form.{Form}
 use Rattle.yarn_cli.specs.declared.words.Form.TheVariants.{Name, Number}
 use Rattle.yarn_cli.specs.declared.command.Pair.{Pair}
@@ -16,6 +16,7 @@ word_of Check = codes "check"
 word_of Play = codes "play"
 word_of Format = codes "format"
 word_of Strings = codes "strings"
+word_of Tag = codes "tag"
 
 -- a pair of a command: its name, and what may be given under it
 pub record Row : Type 0 where
@@ -30,6 +31,7 @@ rows_of Play =
     ∷ record { name = codes "save-vars"; form = Name } ∷ []
 rows_of Format = []
 rows_of Strings = []
+rows_of Tag = record { name = codes "from"; form = Number 0 268435455 } ∷ []
 rows_of Check = []
 
 -- how many names the command has
@@ -38,6 +40,7 @@ is_count_of Check n = nat_lt 0 n
 is_count_of Play n = nat_lt 0 n
 is_count_of Strings n = nat_lt 0 n
 is_count_of Format n = nat_eq n 1
+is_count_of Tag n = nat_eq n 1
 
 -- the word of a pair's name
 abbrev pub dashed : List ℕ → List ℕ

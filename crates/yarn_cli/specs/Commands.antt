@@ -2,7 +2,7 @@
 use Rattle.std.specs.Prelude.{ℕ, List, [], ◌∷◌, ◌++◌, Bool, true, false, Option, Some, None}
 use Rattle.yarn_base.specs.Outside.{Named}
 use Rattle.yarn_cli.specs.declared.command.CommandKind.{CommandKind}
-use Rattle.yarn_cli.specs.declared.command.CommandKind.TheVariants.{Check, Format, Strings, Play}
+use Rattle.yarn_cli.specs.declared.command.CommandKind.TheVariants.{Check, Format, Strings, Tag, Play}
 use Rattle.yarn_cli.specs.declared.status.Status.TheVariants.{Usage}
 use Rattle.yarn_cli.specs.Command.{Command, vars_name_of, save_vars_of}
 use Rattle.yarn_cli.specs.Found.{command_of}
@@ -12,12 +12,14 @@ use Rattle.yarn_cli.specs.Check.{of_check}
 use Rattle.yarn_cli.specs.Format.{of_format}
 use Rattle.yarn_cli.specs.Play.{of_play}
 use Rattle.yarn_cli.specs.Strings.{of_strings}
+use Rattle.yarn_cli.specs.Tag.{of_tag}
 
 abbrev pub of_kind : CommandKind → Command → Named → List ℕ → Whole
 of_kind Check command named input = untouched named input (of_check command named)
 of_kind Play command named input = of_play command named input
 of_kind Format command named input = untouched named input (of_format command named)
 of_kind Strings command named input = untouched named input (of_strings command named)
+of_kind Tag command named input = untouched named input (of_tag command named)
 
 abbrev pub of_command : Command → Named → List ℕ → Whole
 of_command command = of_kind command.kind command
@@ -54,6 +56,7 @@ takes_input_of Play = true
 takes_input_of Check = false
 takes_input_of Format = false
 takes_input_of Strings = false
+takes_input_of Tag = false
 
 abbrev pub takes_input : Option Command → Bool
 takes_input None = false

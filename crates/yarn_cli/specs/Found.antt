@@ -2,7 +2,7 @@
 use Rattle.std.specs.Prelude.{ℕ, List, [], ◌∷◌, ◌++◌, is_none, ◌&&◌, if◌then◌else◌, Option, Some, None}
 use Rattle.std.specs.Str.{bytes_eq}
 use Rattle.yarn_cli.specs.declared.command.CommandKind.{CommandKind}
-use Rattle.yarn_cli.specs.declared.command.CommandKind.TheVariants.{Check, Format, Strings, Play}
+use Rattle.yarn_cli.specs.declared.command.CommandKind.TheVariants.{Check, Format, Strings, Tag, Play}
 use Rattle.yarn_cli.specs.declared.command.Pair.{Pair}
 use Rattle.yarn_cli.specs.Command.{Command, value_of}
 use Rattle.yarn_cli.specs.CommandLine.{Row, word_of, rows_of, row_in, fits_form, are_names_of}
@@ -14,6 +14,7 @@ kind_of word =
     else if bytes_eq word (word_of Play) then Some Play
     else if bytes_eq word (word_of Format) then Some Format
     else if bytes_eq word (word_of Strings) then Some Strings
+    else if bytes_eq word (word_of Tag) then Some Tag
     else None
 
 -- the words left are the names

@@ -19,3 +19,5 @@ pub mod Status
 pub mod View
 pub mod Words
 pub mod Strings
+pub mod Tag
+pub mod TableLaws

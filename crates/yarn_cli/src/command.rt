@@ -3,13 +3,13 @@ ghost use Rattle.std.specs.Prelude.{◌≡◌, ◌<◌, [], ◌∷◌, ◌++◌,
 ghost use Rattle.std.specs.List.{list_all};
 ghost use Rattle.std.specs.Option.{option_copied};
 ghost use Rattle.yarn_cli.specs.declared.command.Pair.{Pair};
-ghost use Rattle.yarn_cli.specs.Command.{value_of, start_of, limit_of, vars_name_of, save_vars_of};
+ghost use Rattle.yarn_cli.specs.Command.{or_default, value_of, start_of, limit_of, from_of, vars_name_of, save_vars_of};
 ghost use Rattle.yarn_cli.specs.CommandLine.{are_names_of, is_count_of, row_in, rows_of};
 ghost use Rattle.yarn_cli.specs.Found.{command_of, found_behind, given, with_names, with_pair};
 ghost use Rattle.yarn_cli.specs.Laws.{WordsSay};
 ghost use Rattle.yarn_cli.specs.Messages.{name_at};
 ghost use Rattle.yarn_cli.specs.View.{row_seen};
-ghost use Rattle.yarn_cli.specs.Words.{is_name_word};
+ghost use Rattle.yarn_cli.specs.Words.{is_name_word, number_in};
 
 use crate::row::{Row, kind_in_word, row_in_word};
 use crate::words::{fits, is_name_word_str, number_in_word};
@@ -23,6 +23,7 @@ pub enum CommandKind {
     Check,
     Format,
     Strings,
+    Tag,
     Play,
 }
 
@@ -164,7 +165,7 @@ fn is_count(kind: CommandKind, count: usize) -> bool
 {
     match kind {
         CommandKind::Check | CommandKind::Strings | CommandKind::Play => 0 < count,
-        CommandKind::Format => count == 1,
+        CommandKind::Format | CommandKind::Tag => count == 1,
     }
 }
 
@@ -231,6 +232,16 @@ impl Command {
         }
     }
 
+    /// The first number of a tag.
+    pub(crate) fn first_number(&self) -> u32
+        ensures { result ≡ from_of self.now }
+    {
+        match value_in(self.pairs.as_slice(), "from") {
+            Some(word) => tag_number(word.as_str()),
+            None => 0,
+        }
+    }
+
     /// The name of the file with the variables to begin with, where one was given.
     pub(crate) fn vars(&self) -> Option<&Text>
         ensures { option_copied result ≡ vars_name_of self.now }
@@ -243,5 +254,15 @@ impl Command {
         ensures { option_copied result ≡ save_vars_of self.now }
     {
         value_in(self.pairs.as_slice(), "save-vars")
+    }
+}
+
+// The number that the word gives for the first number of a tag.
+fn tag_number(word: &str) -> u32
+    ensures { result ≡ or_default 0 (number_in 0 268435455 word.now) }
+{
+    match number_in_word(word, 0, 268435455) {
+        Some(number) => number as u32,
+        None => 0,
     }
 }

@@ -13,6 +13,7 @@ mod row;
 mod run;
 mod status;
 mod strings;
+mod tag;
 mod typing;
 mod vars;
 mod words;
@@ -24,6 +25,7 @@ pub use play::run_play;
 pub use run::run_yarn;
 pub use status::Status;
 pub use strings::run_strings;
+pub use tag::run_tag;
 
 #[cfg(test)]
 mod tests;

@@ -22,6 +22,7 @@ pub(crate) fn kind_in_word(word: &str) -> Option<CommandKind>
         "check" => Some(CommandKind::Check),
         "format" => Some(CommandKind::Format),
         "strings" => Some(CommandKind::Strings),
+        "tag" => Some(CommandKind::Tag),
         "play" => Some(CommandKind::Play),
         _ => None,
     }
@@ -33,7 +34,20 @@ pub(crate) fn row_in_word(kind: CommandKind, word: &str) -> Option<Row>
 {
     match kind {
         CommandKind::Play => play_row(word),
+        CommandKind::Tag => tag_row(word),
         CommandKind::Check | CommandKind::Format | CommandKind::Strings => None,
+    }
+}
+
+fn tag_row(word: &str) -> Option<Row>
+    ensures { more_rows result ≡ row_in word.now (rows_of CommandKind.Tag) }
+{
+    match word {
+        "--from" => Some(Row {
+            name: "from",
+            form: Form::Number(0, 268435455),
+        }),
+        _ => None,
     }
 }
 

@@ -1,5 +1,5 @@
 //! What single words of a command may stand for.
-ghost use Rattle.std.specs.Prelude.{◌≡◌, ◌<◌, ◌≤◌, MatchOption};
+ghost use Rattle.std.specs.Prelude.{◌≡◌, ◌<◌, ◌≤◌, IfSome, MatchOption};
 ghost use Rattle.std.specs.List.{list_all};
 ghost use Rattle.yarn_cli.specs.CommandLine.{fits_form};
 ghost use Rattle.yarn_cli.specs.Words.{is_digit, is_name_word, is_number, number_behind, number_in};
@@ -41,7 +41,8 @@ pub(crate) fn is_name_word_str(word: &str) -> bool
 
 /// The number that the word gives, where it is one from `least` to `most`.
 pub(crate) fn number_in_word(word: &str, least: u64, most: u64) -> Option<u64>
-    ensures { result ≡ number_in least most word.now }
+    ensures number { result ≡ number_in least most word.now }
+    ensures within { IfSome result (λ number. number ≤ most) }
 {
     if !is_number_str(word) {
         return None;
