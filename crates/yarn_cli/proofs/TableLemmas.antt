@@ -10,12 +10,15 @@ use Rattle.yarn_table.specs.Tables.{AreDistinct, IsTemplate, has_id}
 use Rattle.yarn_table.specs.Written.{WrittenIsRead}
 use Rattle.yarn_cli.specs.TableLaws.{IsTaken, IsReadBack}
 
+abbrev differs : List ℕ → List ℕ → Type 0
+differs id other = id ≡ other → ⊥
+
 new-absent : (id : List ℕ) (base : List BaseLine) → IsNew id (ids_of base) → has_id base id ≡ false
 new-absent id [] new = refl
-new-absent id (line ∷ base) new = by_test (new-absent id base (All-tail _ line.id (ids_of base) new)) (bytes_eq id line.id) refl
+new-absent id (line ∷ base) new = by_test (new-absent id base (All-tail (differs id) line.id (ids_of base) new)) (bytes_eq id line.id) refl
   where
     by_test : has_id base id ≡ false → (t : Bool) → bytes_eq id line.id ≡ t → has_id (line ∷ base) id ≡ false
-    by_test later true is = absurd (All-head _ line.id (ids_of base) new ((bytes_eq-Decides id line.id).0 is))
+    by_test later true is = absurd (All-head (differs id) line.id (ids_of base) new ((bytes_eq-Decides id line.id).0 is))
     by_test later false is = rw is later
 
 unique-distinct : (base : List BaseLine) → AreUnique (ids_of base) → AreDistinct base
