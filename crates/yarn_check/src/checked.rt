@@ -1,5 +1,5 @@
 //! Programs that were checked.
-ghost use Rattle.std.specs.Prelude.{◌≡◌, ◌<◌, All, Some, IfOk, IfErr, OnOk, length};
+ghost use Rattle.std.specs.Prelude.{◌≡◌, ◌<◌, All, None, Some, IfOk, IfErr, OnOk, length};
 ghost use Rattle.std.specs.Option.{option_copied};
 ghost use Rattle.yarn_code.specs.Fields.{HasFields, IsNodeField};
 ghost use Rattle.yarn_check.specs.Shapes.{IsValid};
@@ -62,6 +62,8 @@ pub fn check(alloc: Global, program: Program) -> Result<Checked, (Program, Check
     ensures valid { OnOk result (IsValid program) }
     ensures back { IfErr result (λ refused. refused.0 ≡ program) }
     ensures fault { IfErr result (λ refused. IsRefused program refused.1) }
+    ensures none { OnOk result (whole_fault program ≡ None) }
+    ensures told { IfErr result (λ refused. AreNames (whole_fault program) refused.1) }
 {
     match judge(alloc, &program) {
         Ok(()) => Ok(Checked { program }),
@@ -72,7 +74,8 @@ pub fn check(alloc: Global, program: Program) -> Result<Checked, (Program, Check
 // Whether the program is valid.
 fn judge(alloc: Global, program: &Program) -> Result<(), CheckFault>
     requires { HasFields program.now }
-    ensures { Judges program.now result }
+    ensures judged { Judges program.now result }
+    ensures told { Tells (whole_fault program.now) result }
 {
     first_fault(alloc, program)
 }
