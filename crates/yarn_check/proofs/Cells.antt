@@ -93,7 +93,7 @@ meant_same C D to back cells h = record { at = λ q cell e. means_same (C q) (D 
 slice_get_set_same : {X : Type 0} (xs : List X) (i : ℕ) (y : X) → i < length xs → slice_get (set xs i y) i ≡ Some y
 slice_get_set_same xs i y lt = grind (arith, common_steps, gets)
 
-slice_get_set_other : {X : Type 0} (xs : List X) (i j : ℕ) (y : X) → j ≢ i → slice_get (set xs i y) j ≡ slice_get xs j
+pub slice_get_set_other : {X : Type 0} (xs : List X) (i j : ℕ) (y : X) → j ≢ i → slice_get (set xs i y) j ≡ slice_get xs j
 slice_get_set_other xs i j y ne = grind (arith, common_steps, gets)
 
 -- the goal is later, and its shape is put there
@@ -103,7 +103,7 @@ pub record IsPut (place : ℕ) (g : Goal) (cells after : List Coming) : Type 0 w
   pub there : slice_get cells g.place ≡ Some cell
   pub is : after ≡ set cells g.place (and_shape g.shape cell)
 
-put_some : (place : ℕ) (g : Goal) (cells after : List Coming) → put place g cells ≡ Some after → IsPut place g cells after
+pub put_some : (place : ℕ) (g : Goal) (cells after : List Coming) → put place g cells ≡ Some after → IsPut place g cells after
 put_some place g cells after = by_test (ltb place g.place) refl
   where
     by_cell : ltb place g.place ≡ true → (o : Option Coming) → slice_get cells g.place ≡ o → put_there g cells o ≡ Some after → IsPut place g cells after

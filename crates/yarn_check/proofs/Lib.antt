@@ -25,3 +25,4 @@ pub mod NameLemmas
 pub mod Alike
 pub mod ToldLemmas
 pub mod JudgeLemmas
+pub mod ShapeLemmas

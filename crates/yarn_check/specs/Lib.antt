@@ -10,3 +10,4 @@ pub mod Views
 pub mod NameMaps
 pub mod Told
 pub mod Missing
+pub mod ShapeAt

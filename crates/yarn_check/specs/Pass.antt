@@ -1,5 +1,5 @@
 -- The pass of a checker: the shapes that come to each instruction, filled forward.
-use Rattle.std.specs.Prelude.{ℕ, ◌+◌, List, [], ◌∷◌, length, map, set, get_or, replicate, nat_eq, ltb, leb, Bool, true, false, ◌&&◌, if◌then◌else◌, Option, Some, None, slice_get, Result, Ok, Err}
+use Rattle.std.specs.Prelude.{ℕ, ◌+◌, List, [], ◌∷◌, length, map, set, get_or, take, replicate, nat_eq, ltb, leb, Bool, true, false, ◌&&◌, if◌then◌else◌, Option, Some, None, slice_get, Result, Ok, Err}
 use Rattle.std.specs.Cmp.Lexicographic.{pointwise}
 use Rattle.std.specs.Option.{option_and_then}
 use Rattle.yarn_value.specs.Rows.{same_kind}
@@ -88,6 +88,15 @@ the_shape Several = None
 
 abbrev pub shapes_in : List Coming → Shapes
 shapes_in cells = map the_shape cells
+
+-- what came to a place, where a walk ended before it
+abbrev pub came_at : Walked → ℕ → Option Shape
+came_at (Ended cells) place = the_shape (get_or cells place Nothing)
+came_at (Faulted f at) place = None
+
+-- the shape to which a pass over the instructions before a place comes
+abbrev pub came_to : Program → List Coded → ℕ → Option Shape
+came_to p code place = came_at (walk p (take place code) 0 (beginning (length code))) place
 
 -- ---- the first look
 

@@ -1,21 +1,24 @@
 //! Programs that were checked.
 ghost use Rattle.std.specs.Prelude.{◌≡◌, ◌<◌, All, None, Some, IfOk, IfErr, OnOk, length};
-ghost use Rattle.std.specs.Option.{option_copied};
+ghost use Rattle.std.specs.Option.{option_copied, option_map};
 ghost use Rattle.yarn_code.specs.Fields.{HasFields, IsNodeField};
 ghost use Rattle.yarn_check.specs.Shapes.{IsValid};
 ghost use Rattle.yarn_check.specs.Faults.{told};
+ghost use Rattle.yarn_check.specs.ShapeAt.{IsShapeAt, shape_of};
 ghost use Rattle.yarn_check.specs.Missing.{first_lacking};
 ghost use Rattle.yarn_check.specs.Pass.{first_of};
 ghost use Rattle.yarn_check.specs.Told.{IsRefused, Judges, Names as AreNames, Tells, pass_node as pass_node_of, whole_fault};
 ghost use Rattle.yarn_check.specs.Views.{node_fault};
 
-use crate::CheckFault;
 use crate::first_look::{look_all, words};
 use crate::missing::first_missing;
 use crate::names::Names;
 use crate::node_walk::{NodeFault, Walked, walk};
+use crate::shape::shape_in;
+use crate::{CheckFault, Shape};
 use std::alloc::Global;
 use std::marker::Model;
+use yarn_base::Memory;
 use yarn_code::{CodeNode, Program};
 use yarn_value::{Signature, Signatures};
 
@@ -44,6 +47,20 @@ impl Checked {
         ensures valid { IsValid self.now }
     {
         &self.program
+    }
+
+    /// The shape of an instruction of a node, both counted from 0: what stands on the stack when it is reached, and which
+    /// options wait. `None` where no way leads to it, and where the node or the instruction isn't there.
+    pub fn shape(&self, alloc: Global, node: usize, at: usize) -> Result<Option<Shape>, Memory>
+        ensures { IfOk result (λ told. IsShapeAt self.now node at (option_map shape_of told)) }
+    {
+        match self.program.nodes.get(node) {
+            Some(node) => {
+                let names = Names::new(alloc, &self.program)?;
+                shape_in(alloc, &names, node.code.as_slice(), at)
+            }
+            None => Ok(None),
+        }
     }
 
     /// The first function of the program that the signatures lack with that signature, and none where all are there.

@@ -11,6 +11,7 @@ mod laws;
 mod missing;
 mod names;
 mod node_walk;
+mod shape;
 mod stack;
 mod values;
 
@@ -22,3 +23,4 @@ pub use laws::{
     none_open_is_a_fault, parts_fit, pass_is_exact, rebuilt_states_are_shaped, replies_are_taken,
     runs_have_one_outcome, shapes_are_one, steps_are_shaped, steps_on,
 };
+pub use shape::Shape;
