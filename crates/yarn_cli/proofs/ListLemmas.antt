@@ -88,11 +88,13 @@ told-read : (told : Option Named) (name bytes : List ℕ) → GivesFile told nam
 told-read None name bytes gives = tt
 told-read (Some named) name bytes gives = of_one-read name (named name) bytes gives
 
--- a program file that is read
-pub program-unsaid : (names : List (List ℕ)) (name : List ℕ) (ended : Ended) (files files_new : FilesSeen) (out out_new : SinkSeen) (bytes : List ℕ) →
-    GivesFile files.contents name 1073741824 bytes → PrintsRead (of_decoded name (decoding_within bytes)) ended out out_new →
+-- a program file that is read, under a name and with bytes that are those of the file
+pub program-unsaid : (names : List (List ℕ)) (name other : List ℕ) (bytes kept : List ℕ) (ended : Ended) (files files_new : FilesSeen) (out out_new : SinkSeen) →
+    other ≡ name → kept ≡ bytes → GivesFile files.contents other 1073741824 bytes → PrintsRead (of_decoded other (decoding_within kept)) ended out out_new →
     files_new.contents ≡ files.contents → files_new.write_faults ≡ files.write_faults → files.read_faults ≤ files_new.read_faults →
     PrintsUnsaid names (λ named. of_one of_listed name (named name)) ended files files_new out out_new
-program-unsaid names name ended files files_new out out_new bytes gives =
-    made-unsaid (λ named. of_one of_listed name (named name)) (of_decoded name (decoding_within bytes)) names ended files files_new out out_new
-    (told-read files.contents name bytes gives)
+program-unsaid names name other bytes kept ended files files_new out out_new same kept_is gives =
+    made-unsaid (λ named. of_one of_listed name (named name)) (of_decoded other (decoding_within kept)) names ended files files_new out out_new
+    (subst (λ (n : List ℕ). IfSome files.contents (λ named. of_one of_listed n (named n) ≡ of_decoded other (decoding_within kept))) same
+    (subst (λ (b : List ℕ). IfSome files.contents (λ named. of_one of_listed other (named other) ≡ of_decoded other (decoding_within b))) (sym kept_is)
+    (told-read files.contents other bytes gives)))
