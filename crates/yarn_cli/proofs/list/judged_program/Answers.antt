@@ -8,7 +8,7 @@ use Rattle.yarn_cli.proofs.list.judged_program.Goals as goal
 
 pub returns-in-Ok-clause-ok : goal.returns-in-Ok-clause-ok
 returns-in-Ok-clause-ok c =
-    ap (of_judged c.args.name.now c.args.program) (c.in-Ok.ensures.none search) ∙ ap (λ p. of_done (listing_of p)) (sym c.in-Ok.ensures.ok)
+    ap (of_judged c.args.name.now c.args.program) c.in-Ok.ensures.none ∙ ap (λ p. of_done (listing_of p)) (sym c.in-Ok.ensures.ok)
 
 pub returns-clause-err : goal.returns-clause-err
 returns-clause-err c =
