@@ -8,6 +8,7 @@ use Rattle.std.proofs.lemmas.Slice.Eq.{bytes_eq-Decides}
 use Rattle.yarn_base.specs.declared.memory.Memory.{Memory}
 use Rattle.yarn_cli.specs.declared.command.CommandKind.{CommandKind}
 use Rattle.yarn_cli.specs.declared.command.CommandKind.TheVariants.{Check, Format, Strings, Tag, Play}
+use Rattle.yarn_cli.specs.declared.command.CommandKind.TheVariants as kinds
 use Rattle.yarn_cli.specs.declared.command.Pair.{Pair}
 use Rattle.yarn_cli.specs.Command.{Command, value_of}
 use Rattle.yarn_cli.specs.CommandLine.{Row, CommandLine, IsPairOf, Once, word_of, rows_of, row_in, dashed, fits_form, fits_row, is_count_of, are_names_of, spelled, spelled_pairs}
@@ -142,7 +143,8 @@ kind_of-word word kind e =
     (λ e. this-or-other kind Play word _ e
     (λ e. this-or-other kind Format word _ e
     (λ e. this-or-other kind Strings word _ e
-    (λ e. this-or-other kind Tag word _ e (λ e. absurd cc)))))
+    (λ e. this-or-other kind Tag word _ e
+    (λ e. this-or-other kind kinds.List word _ e (λ e. absurd cc))))))
 
 of_word : (kind : CommandKind) → kind_of (word_of kind) ≡ Some kind
 of_word Check = refl
@@ -150,6 +152,7 @@ of_word Play = refl
 of_word Format = refl
 of_word Strings = refl
 of_word Tag = refl
+of_word kinds.List = refl
 
 line-command : (kind : CommandKind) (word : List ℕ) (words : List (List ℕ)) (command : Command) → word ≡ word_of kind →
     IsLine kind [] words command → CommandLine (word ∷ words) command

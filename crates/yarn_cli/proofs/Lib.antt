@@ -1,6 +1,7 @@
 pub mod CommandLemmas
 pub mod CommandLineLemmas
 pub mod CutLemmas
+pub mod ListLemmas
 pub mod PairsLemmas
 pub mod PlayLemmas
 pub mod ReadLemmas

@@ -92,7 +92,7 @@ module _ (names : List (List ℕ)) (outcome : Named → Outcome) (ended : Ended)
 
 module _ (outcome : Named → Outcome) (made : Outcome) (names : List (List ℕ)) (ended : Ended) (files files_new : FilesSeen) (out out_new : SinkSeen) where
   -- what is made of the files that were read is the outcome
-  made-unsaid : IfSome files.contents (λ named. outcome named ≡ made) → PrintsRead made ended out out_new → files_new.contents ≡ files.contents →
+  pub made-unsaid : IfSome files.contents (λ named. outcome named ≡ made) → PrintsRead made ended out out_new → files_new.contents ≡ files.contents →
       files_new.write_faults ≡ files.write_faults → files.read_faults ≤ files_new.read_faults → PrintsUnsaid names outcome ended files files_new out out_new
   made-unsaid is prints files_stay writes_stay count = record {
     exact = λ plain. if-some files.contents (λ named. outcome named ≡ made) (λ named. GivesSoFar (outcome named) ended out.written out_new.written)

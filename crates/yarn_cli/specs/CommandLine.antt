@@ -5,6 +5,7 @@ use Rattle.std.specs.List.{All, list_all}
 use Rattle.std.specs.Str.{bytes_eq}
 use Rattle.yarn_cli.specs.declared.command.CommandKind.{CommandKind}
 use Rattle.yarn_cli.specs.declared.command.CommandKind.TheVariants.{Check, Format, Strings, Tag, Play}
+use Rattle.yarn_cli.specs.declared.command.CommandKind.TheVariants as kinds
 use Rattle.yarn_cli.specs.declared.words.Form.{Form}
 use Rattle.yarn_cli.specs.declared.words.Form.TheVariants.{Name, Number}
 use Rattle.yarn_cli.specs.declared.command.Pair.{Pair}
@@ -17,6 +18,7 @@ word_of Play = codes "play"
 word_of Format = codes "format"
 word_of Strings = codes "strings"
 word_of Tag = codes "tag"
+word_of kinds.List = codes "list"
 
 -- a pair of a command: its name, and what may be given under it
 pub record Row : Type 0 where
@@ -32,6 +34,7 @@ rows_of Play =
 rows_of Format = []
 rows_of Strings = []
 rows_of Tag = record { name = codes "from"; form = Number 0 268435455 } ∷ []
+rows_of kinds.List = []
 rows_of Check = []
 
 -- how many names the command has
@@ -41,6 +44,7 @@ is_count_of Play n = nat_lt 0 n
 is_count_of Strings n = nat_lt 0 n
 is_count_of Format n = nat_eq n 1
 is_count_of Tag n = nat_eq n 1
+is_count_of kinds.List n = nat_eq n 1
 
 -- the word of a pair's name
 abbrev pub dashed : List ℕ → List ℕ

@@ -3,6 +3,7 @@ use Rattle.std.specs.Prelude.{ℕ, List, [], ◌∷◌, ◌++◌, Bool, true, fa
 use Rattle.yarn_base.specs.Outside.{Named}
 use Rattle.yarn_cli.specs.declared.command.CommandKind.{CommandKind}
 use Rattle.yarn_cli.specs.declared.command.CommandKind.TheVariants.{Check, Format, Strings, Tag, Play}
+use Rattle.yarn_cli.specs.declared.command.CommandKind.TheVariants as kinds
 use Rattle.yarn_cli.specs.declared.status.Status.TheVariants.{Usage}
 use Rattle.yarn_cli.specs.Command.{Command, vars_name_of, save_vars_of}
 use Rattle.yarn_cli.specs.Found.{command_of}
@@ -10,6 +11,7 @@ use Rattle.yarn_cli.specs.Messages.{usage}
 use Rattle.yarn_cli.specs.Outcome.{Whole, untouched}
 use Rattle.yarn_cli.specs.Check.{of_check}
 use Rattle.yarn_cli.specs.Format.{of_format}
+use Rattle.yarn_cli.specs.List.{of_list}
 use Rattle.yarn_cli.specs.Play.{of_play}
 use Rattle.yarn_cli.specs.Strings.{of_strings}
 use Rattle.yarn_cli.specs.Tag.{of_tag}
@@ -20,6 +22,7 @@ of_kind Play command named input = of_play command named input
 of_kind Format command named input = untouched named input (of_format command named)
 of_kind Strings command named input = untouched named input (of_strings command named)
 of_kind Tag command named input = untouched named input (of_tag command named)
+of_kind kinds.List command named input = untouched named input (of_list command named)
 
 abbrev pub of_command : Command → Named → List ℕ → Whole
 of_command command = of_kind command.kind command
@@ -57,6 +60,7 @@ takes_input_of Check = false
 takes_input_of Format = false
 takes_input_of Strings = false
 takes_input_of Tag = false
+takes_input_of kinds.List = false
 
 abbrev pub takes_input : Option Command → Bool
 takes_input None = false

@@ -3,6 +3,7 @@ use Rattle.std.specs.Prelude.{ℕ, List, [], ◌∷◌, ◌++◌, is_none, ◌&&
 use Rattle.std.specs.Str.{bytes_eq}
 use Rattle.yarn_cli.specs.declared.command.CommandKind.{CommandKind}
 use Rattle.yarn_cli.specs.declared.command.CommandKind.TheVariants.{Check, Format, Strings, Tag, Play}
+use Rattle.yarn_cli.specs.declared.command.CommandKind.TheVariants as kinds
 use Rattle.yarn_cli.specs.declared.command.Pair.{Pair}
 use Rattle.yarn_cli.specs.Command.{Command, value_of}
 use Rattle.yarn_cli.specs.CommandLine.{Row, word_of, rows_of, row_in, fits_form, are_names_of}
@@ -15,6 +16,7 @@ kind_of word =
     else if bytes_eq word (word_of Format) then Some Format
     else if bytes_eq word (word_of Strings) then Some Strings
     else if bytes_eq word (word_of Tag) then Some Tag
+    else if bytes_eq word (word_of kinds.List) then Some kinds.List
     else None
 
 -- the words left are the names

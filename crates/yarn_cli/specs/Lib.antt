@@ -20,4 +20,5 @@ pub mod View
 pub mod Words
 pub mod Strings
 pub mod Tag
+pub mod List
 pub mod TableLaws

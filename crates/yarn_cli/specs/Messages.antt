@@ -5,6 +5,8 @@ use Rattle.yarn_cli.specs.Command.{or_default}
 use Rattle.yarn_value.specs.declared.fault.RunFault.{RunFault}
 use Rattle.yarn_value.specs.declared.fault.RunFault.TheVariants as run
 use Rattle.yarn_code.specs.Moments.{FaultPlace}
+use Rattle.yarn_check.specs.Faults.{CheckFault}
+use Rattle.yarn_check.specs.Faults as check
 use Rattle.yarn_tree.specs.declared.refusal.RefusalKind.{RefusalKind}
 use Rattle.yarn_tree.specs.declared.refusal.RefusalKind.TheVariants.{TooMuch, BadUtf8, LineTooLong, BadLine, BadStructure, TooDeep, TooMany, Fraction, NumberTooLarge, BadTitle, DuplicateTitle, ReservedName, DuplicateDeclare, UnknownNode, UnknownFunction, WrongArguments, DuplicateLineId}
 
@@ -70,6 +72,30 @@ bad_vars line = codes "BadVars " ++ decimal line
 
 abbrev pub bad_variable : List ℕ → List ℕ
 bad_variable name = codes "BadVariable " ++ name
+
+-- the faults of a program file
+
+abbrev pub newer_format : List ℕ
+newer_format = codes "NewerFormat"
+
+abbrev pub bad_program : ℕ → List ℕ
+bad_program at = codes "BadProgram " ++ decimal at
+
+-- the name of a fault with the places of a node and of an instruction in it
+abbrev pub with_places : List ℕ → ℕ → ℕ → List ℕ
+with_places fault node place = fault ++ (codes " " ++ (decimal node ++ (codes " " ++ decimal place)))
+
+abbrev pub with_name : List ℕ → List ℕ → List ℕ
+with_name fault name = fault ++ (codes " " ++ name)
+
+abbrev pub check_text : CheckFault → List ℕ
+check_text (check.BadLabel node place) = with_places (codes "BadLabel") node place
+check_text (check.BackwardJump node place) = with_places (codes "BackwardJump") node place
+check_text (check.UnknownVariable name) = with_name (codes "UnknownVariable") name
+check_text (check.UnknownFunction name) = with_name (codes "UnknownFunction") name
+check_text (check.UnknownLine id) = with_name (codes "UnknownLine") id
+check_text (check.NoShape node place) = with_places (codes "NoShape") node place
+check_text (check.TooManyDeep node place) = with_places (codes "TooManyDeep") node place
 
 abbrev pub waiting : List ℕ
 waiting = codes "waiting for a choice" ++ 10 ∷ []

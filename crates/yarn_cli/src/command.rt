@@ -24,6 +24,7 @@ pub enum CommandKind {
     Format,
     Strings,
     Tag,
+    List,
     Play,
 }
 
@@ -165,7 +166,7 @@ fn is_count(kind: CommandKind, count: usize) -> bool
 {
     match kind {
         CommandKind::Check | CommandKind::Strings | CommandKind::Play => 0 < count,
-        CommandKind::Format | CommandKind::Tag => count == 1,
+        CommandKind::Format | CommandKind::Tag | CommandKind::List => count == 1,
     }
 }
 

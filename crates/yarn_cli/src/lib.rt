@@ -2,9 +2,11 @@
 #![tactic(auto)]
 
 mod check;
+mod check_fault;
 mod command;
 mod format;
 pub mod laws;
+mod list;
 mod message;
 mod play;
 mod project;
@@ -21,6 +23,7 @@ mod words;
 pub use check::run_check;
 pub use command::{Command, CommandKind, read_words};
 pub use format::run_format;
+pub use list::run_list;
 pub use play::run_play;
 pub use run::run_yarn;
 pub use status::Status;

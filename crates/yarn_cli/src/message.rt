@@ -2,7 +2,7 @@
 ghost use Rattle.std.specs.Prelude.{◌≡◌, ◌≤◌, ◌⊎◌, IfOk, string_bytes};
 ghost use Rattle.std.specs.Io.KnownBytes.{append_known};
 ghost use Rattle.yarn_base.specs.Causes.{Rose};
-ghost use Rattle.yarn_cli.specs.Messages.{bad_variable as bad_variable_text, bad_vars, cannot_read, cannot_write, file_refused, kind_text, name_at, refused, usage};
+ghost use Rattle.yarn_cli.specs.Messages.{bad_program as bad_program_text, bad_variable as bad_variable_text, bad_vars, cannot_read, cannot_write, file_refused, kind_text, name_at, refused, usage};
 ghost use Rattle.yarn_cli.specs.Ended.{Tells};
 ghost use Rattle.yarn_cli.specs.Outcome.{of_done};
 ghost use Rattle.yarn_cli.specs.Runs.{PrintsRead, sink_seen};
@@ -184,6 +184,29 @@ pub(crate) fn bad_variable(alloc: Global, file: &str, name: &str) -> Ended
 {
     match format!(in alloc; "BadVariable {name}") {
         Ok(fault) => refused_vars(alloc, file, fault.as_str()),
+        Err(_) => Ended::out_of_memory(alloc),
+    }
+}
+
+/// A program file is refused for that fault.
+pub(crate) fn refused_program(alloc: Global, file: &str, fault: &str) -> Ended
+    ensures cases { (result.status ≡ Status.RefusedProgram) ⊎ (result.status ≡ Status.OutOfMemory) }
+    ensures line { result.status ≡ Status.RefusedProgram → string_bytes result.line ≡ file_refused file.now fault.now }
+{
+    Ended::with_line(
+        alloc,
+        Status::RefusedProgram,
+        format!(in alloc; "{file}: {fault}\n"),
+    )
+}
+
+/// A program file is bad at that byte.
+pub(crate) fn bad_program(alloc: Global, file: &str, at: usize) -> Ended
+    ensures cases { (result.status ≡ Status.RefusedProgram) ⊎ (result.status ≡ Status.OutOfMemory) }
+    ensures line { result.status ≡ Status.RefusedProgram → string_bytes result.line ≡ file_refused file.now (bad_program_text at) }
+{
+    match format!(in alloc; "BadProgram {at}") {
+        Ok(fault) => refused_program(alloc, file, fault.as_str()),
         Err(_) => Ended::out_of_memory(alloc),
     }
 }

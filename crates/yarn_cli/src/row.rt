@@ -23,6 +23,7 @@ pub(crate) fn kind_in_word(word: &str) -> Option<CommandKind>
         "format" => Some(CommandKind::Format),
         "strings" => Some(CommandKind::Strings),
         "tag" => Some(CommandKind::Tag),
+        "list" => Some(CommandKind::List),
         "play" => Some(CommandKind::Play),
         _ => None,
     }
@@ -35,7 +36,7 @@ pub(crate) fn row_in_word(kind: CommandKind, word: &str) -> Option<Row>
     match kind {
         CommandKind::Play => play_row(word),
         CommandKind::Tag => tag_row(word),
-        CommandKind::Check | CommandKind::Format | CommandKind::Strings => None,
+        CommandKind::Check | CommandKind::Format | CommandKind::Strings | CommandKind::List => None,
     }
 }
 

@@ -7,7 +7,8 @@ ghost use Rattle.yarn_cli.specs.Runs.{Runs, files_seen, input_seen, sink_seen};
 
 use crate::message::{say_out_of_memory, say_usage};
 use crate::{
-    Command, CommandKind, Status, read_words, run_check, run_format, run_play, run_strings, run_tag,
+    Command, CommandKind, Status, read_words, run_check, run_format, run_list, run_play,
+    run_strings, run_tag,
 };
 use std::alloc::Global;
 use yarn_base::{Files, Sink, Source, Words};
@@ -55,5 +56,6 @@ fn run_command<F: Files, I: Source, O: Sink, E: Sink>(
         CommandKind::Format => run_format(alloc, command, files, input, out, err),
         CommandKind::Strings => run_strings(alloc, command, files, input, out, err),
         CommandKind::Tag => run_tag(alloc, command, files, input, out, err),
+        CommandKind::List => run_list(alloc, command, files, input, out, err),
     }
 }

@@ -25,6 +25,8 @@ pub enum Status {
     OutOfMemory,
     /// The variables file is refused.
     RefusedVars,
+    /// The program file is refused.
+    RefusedProgram,
     /// No node has the title to start from.
     UnknownStart,
 }
@@ -45,6 +47,7 @@ impl Status {
             Status::WriteFault => 7,
             Status::OutOfMemory => 8,
             Status::RefusedVars => 9,
+            Status::RefusedProgram => 10,
             Status::UnknownStart => 12,
         }
     }
